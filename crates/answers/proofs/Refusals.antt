@@ -1,0 +1,35 @@
+-- Laws of `refusal` and `answered`, for any checks and for whatever a call leaves behind.
+-- Assumes nothing.
+use Prim.Native.Nat.{ℕ}
+use mathlib.Core.Bool.{Bool, true, false, cond}
+use mathlib.Core.List.{List, [], _∷_}
+use mathlib.Core.Path.{_≡_, refl, ap}
+use lib.Dec.{eqb}
+use borrow.Author.Tests.{eq-eqb, ne-eqb}
+use Rattle.answers.specs.Answers.{Check, refusal, Outcome, answered}
+
+-- a check whose case is there gives its number
+pub refused-by : (t : Bool) (n : ℕ) (rest : List Check) → t ≡ true → refusal ((t, n) ∷ rest) ≡ n
+unfolding refusal
+refused-by t n rest e = ap (λ (b : Bool). cond b n (refusal rest)) e
+
+-- a check whose case is not there is passed over
+pub passed-by : (t : Bool) (n : ℕ) (rest : List Check) → t ≡ false → refusal ((t, n) ∷ rest) ≡ refusal rest
+unfolding refusal
+passed-by t n rest e = ap (λ (b : Bool). cond b n (refusal rest)) e
+
+-- no check is left: done
+pub none-left : refusal [] ≡ 0
+unfolding refusal
+none-left = refl
+
+module _ {A : Type 0} (number : ℕ) (before : A) (count : ℕ) (after : A) where
+  -- the answer 0: the count, and what is new
+  pub done : number ≡ 0 → answered number before count after ≡ record { answer = 0; count = count; leaves = after }
+  unfolding answered
+  done e = rw (eq-eqb _ _ e)
+
+  -- any other answer: no count, and everything as it was
+  pub refused : (number ≡ 0 → ⊥) → answered number before count after ≡ record { answer = number; count = 0; leaves = before }
+  unfolding answered
+  refused h = rw (ne-eqb _ _ h)
