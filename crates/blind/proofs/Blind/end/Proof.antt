@@ -1,0 +1,13 @@
+use borrow.Author.Needs.{needs}
+use Rattle.blind.proofs.Blind.end.Statement.{statement}
+use Rattle.blind.proofs.Blind.end.Tie as tie
+
+pub end-spec : {M : Type 1} → statement M
+end-spec =
+    tie.close
+    (tie.spec
+    (λ c. search needs)
+    (λ c. search needs)
+    (λ c κs. search needs)
+    (λ c. simp (c .enum-told .given .1))
+    (λ c. simp (c .bottom .ensures, c .before .enum-told2 .given .1)))

@@ -1,0 +1,19 @@
+use borrow.Author.Needs.{needs}
+use Rattle.blind.specs.Millisecond.{millisecond, millisecondAt}
+use Rattle.blind.proofs.Blind.millisecond.Statement.{statement}
+use Rattle.blind.proofs.Blind.millisecond.Tie as tie
+
+pub millisecond-spec : {M : Type 1} → statement M
+unfolding millisecond millisecondAt
+millisecond-spec =
+    tie.close
+    (tie.spec
+    (λ c. search needs)
+    (λ c κs. search needs)
+    (λ c. search needs)
+    (λ c κs. search needs)
+    (λ c. search needs)
+    (λ c κs. search needs)
+    (λ c. simp (c .before .before .less-one .ensures, c .before .before .before .before .motion .given .1))
+    (λ c. simp (c .wait .ensures, c .before .before .motion2 .given .1))
+    (λ c. simp (c .run .ensures, c .before .before .motion3 .given .1)))

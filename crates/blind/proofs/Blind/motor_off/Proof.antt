@@ -1,0 +1,12 @@
+use borrow.Author.Needs.{needs}
+use Rattle.blind.specs.Orders.{motorOff}
+use Rattle.blind.proofs.Blind.motor_off.Statement.{statement}
+use Rattle.blind.proofs.Blind.motor_off.Tie as tie
+
+pub motor-off-spec : {M : Type 1} → statement M
+unfolding motorOff
+motor-off-spec =
+    tie.close
+    (tie.spec
+    (λ c κs. search needs)
+    (λ c. simp (c .before .before .pause .ensures)))

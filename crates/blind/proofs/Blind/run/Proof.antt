@@ -1,0 +1,16 @@
+use borrow.Author.Needs.{needs}
+use Rattle.blind.specs.Millisecond.{ran}
+use Rattle.blind.proofs.Blind.run.Statement.{statement}
+use Rattle.blind.proofs.Blind.run.Tie as tie
+
+pub run-spec : {M : Type 1} → statement M
+unfolding ran
+run-spec =
+    tie.close
+    (tie.spec
+    (λ c κs. search needs)
+    (λ c κs. search needs)
+    (λ c κs. search needs)
+    (λ c κs. search needs)
+    (λ c. simp (c .arrived .ensures, c .before .motor-off .ensures, c .before .before .if1 .taken, ← c .before .before .before .before .shortened .ensures, ← c .before .before .before .before .before .moved .ensures))
+    (λ c. simp (c .before .before .if1 .left, ← c .before .before .before .before .shortened .ensures, ← c .before .before .before .before .before .moved .ensures)))

@@ -1,0 +1,12 @@
+use borrow.Author.Needs.{needs}
+use Rattle.blind.specs.Orders.{started}
+use Rattle.blind.proofs.Blind.start.Statement.{statement}
+use Rattle.blind.proofs.Blind.start.Tie as tie
+
+pub start-spec : {M : Type 1} → statement M
+unfolding started
+start-spec =
+    tie.close
+    (tie.spec
+    (λ c κs. search needs)
+    (λ c. simp (c .before .before .last .ensures)))

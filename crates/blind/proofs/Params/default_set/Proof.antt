@@ -1,0 +1,11 @@
+use borrow.Author.Needs.{needs}
+use Rattle.blind.specs.Parameters.{defaults}
+use Rattle.blind.proofs.Params.default_set.Statement.{statement}
+use Rattle.blind.proofs.Params.default_set.Tie as tie
+
+pub default-set-spec : {M : Type 1} → statement M
+unfolding defaults
+default-set-spec =
+    tie.close
+    (tie.spec
+    (λ c. search needs))

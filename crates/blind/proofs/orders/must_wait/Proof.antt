@@ -1,0 +1,12 @@
+use borrow.Author.Needs.{needs}
+use borrow.Author.Tests.{le-ltb, lt-ltb}
+use Rattle.blind.proofs.orders.must_wait.Statement.{statement}
+use Rattle.blind.proofs.orders.must_wait.Tie as tie
+
+pub must-wait-spec : {M : Type 1} → statement M
+must-wait-spec =
+    tie.close
+    (tie.spec
+    (λ c κs. search needs)
+    (λ c. simp (c .goes-on .ensures, lt-ltb _ _ (c .before .if1 .taken)))
+    (λ c. simp (le-ltb _ _ (c .if1 .left))))

@@ -1,0 +1,6 @@
+pub mod Fields
+pub mod Parameters
+pub mod Orders
+pub mod Millisecond
+pub mod Reports
+pub mod Sound
