@@ -1,19 +1,16 @@
--- Document 01, "Orders": what an order and a stop do, what MUD, SSUD and SAPBP order, and the fresh blind.
+-- Document 01, "Orders": what an order and a stop do, and the fresh blind.
 -- Assumes nothing.
-use Prim.Native.Nat.{ℕ, _-_, _*_, _/_}
+use Prim.Native.Nat.{ℕ}
 use mathlib.Core.Bool.{Bool, true, false, cond, not, _&&_}
-use lib.Dec.{eqb, ltb}
+use lib.Dec.{ltb}
 use Rattle.blind.specs.declared.Params.{Params}
 use Rattle.blind.specs.declared.Direction.{Direction}
 use Rattle.blind.specs.declared.Last.{Last}
 use Rattle.blind.specs.declared.Forced.{Forced}
-use Rattle.blind.specs.declared.Goal.{Goal}
 use Rattle.blind.specs.declared.Run.{Run}
 use Rattle.blind.specs.declared.Motion.{Motion}
-use Rattle.blind.specs.declared.Aim.{Aim}
 use Rattle.blind.specs.declared.Blind.{Blind}
 use Rattle.blind.specs.Fields.{withLast, withMotion}
-use Rattle.blind.specs.Parameters.{fullTime, bottom}
 
 -- The last direction once the motor has started in d.
 abbrev pub lastOf : Direction → Last
@@ -72,65 +69,6 @@ stoppedAt (Motion.Runs running) b = motorOff b
 -- "A stop discards the waiting order; if the motor was running it goes off and the rest time becomes RPT."
 unfoldable pub stopped : Blind → Blind
 stopped b = stoppedAt (b .motion) b
-
-abbrev pub fullRun : Direction → Params → Run
-fullRun d p = record { direction = d; goal = Goal.Full; length = fullTime p }
-
-abbrev pub step : Direction → Params → Run
-step d p = record { direction = d; goal = Goal.Step; length = p .sst }
-
--- "MUD: full run, length MUDT."
-unfoldable pub mud : Direction → Blind → Blind
-mud d b = ordered (fullRun d (b .params)) b
-
-abbrev pub isStep : Goal → Bool
-isStep Goal.Full = false
-isStep Goal.Step = true
-isStep Goal.Position = false
-
--- "At rest (motor off, nothing waiting, any rest time), or while a step runs or waits."
-abbrev pub steps : Motion → Bool
-steps (Motion.Off rest) = true
-steps (Motion.Waits rest waiting) = isStep (waiting .goal)
-steps (Motion.Runs running) = isStep (running .goal)
-
--- "SSUD: [then] order a step of length SST in the named direction. While any other run runs or waits, order a stop."
-unfoldable pub ssud : Direction → Blind → Blind
-ssud d b = cond (steps (b .motion)) (ordered (step d (b .params)) b) (stopped b)
-
--- "The target is floor(v · MUDT / 255)."
-unfoldable pub target : ℕ → Params → ℕ
-target v p = v * bottom p / 255
-
--- "The order is a run towards it of length |target − position|; length 0 is a stop."
-unfoldable pub towards : ℕ → ℕ → Aim
-towards target position =
-    cond (ltb position target)
-    (Aim.Go (record { direction = Direction.Down; goal = Goal.Position; length = target - position }))
-    (cond (ltb target position)
-    (Aim.Go (record { direction = Direction.Up; goal = Goal.Position; length = position - target }))
-    Aim.Met)
-
--- "For others, dropped when the position isn't valid; else the target is .."
-unfoldable pub aimedBetween : ℕ → Blind → Aim
-aimedBetween v b = cond (b .valid) (towards (target v (b .params)) (b .position)) Aim.Dropped
-
--- "SAPBP v: 0 is a full run up, 255 a full run down, valid or not."
-unfoldable pub aimed : ℕ → Blind → Aim
-aimed v b =
-    cond (eqb v 0)
-    (Aim.Go (fullRun Direction.Up (b .params)))
-    (cond (eqb v 255)
-    (Aim.Go (fullRun Direction.Down (b .params)))
-    (aimedBetween v b))
-
-unfoldable pub followed : Aim → Blind → Blind
-followed Aim.Dropped b = b
-followed Aim.Met b = stopped b
-followed (Aim.Go run) b = ordered run b
-
-unfoldable pub sapbp : ℕ → Blind → Blind
-sapbp v b = followed (aimed v b) b
 
 -- "A fresh blind has position 0, not valid, no flags, last direction "either" and rest time RPT."
 unfoldable pub freshOf : Params → Blind

@@ -1,11 +1,8 @@
-// One blind: what it is made of. Its orders, its milliseconds, what it reports and when it is sound
-// stand in the modules below, one for each heading of document 01.
-mod inputs;
+// One blind: what it is made of. Its parameters, its orders and its milliseconds stand in the modules
+// below, one for each heading of document 01.
 mod millisecond;
 mod orders;
 mod parameters;
-mod reports;
-mod sound;
 
 pub enum Reaction {
     Ignore,
@@ -67,13 +64,6 @@ pub enum Motion {
     Off(u64),
     Waits(u64, Run),
     Runs(Run),
-}
-
-// What a set position asks of a blind.
-pub enum Aim {
-    Dropped,
-    Met,
-    Go(Run),
 }
 
 // The position is 0 at the top; it may be told only when it is valid.

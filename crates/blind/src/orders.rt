@@ -132,7 +132,7 @@ impl Run {
     }
 
     // Whether the run goes the way that the motor went last.
-    pub(crate) fn goes_on(self, last: Last) -> bool
+    pub fn goes_on(self, last: Last) -> bool
         ensures { λ r. ⌜ r ≡ isLast (self .direction) last ⌝ }
     {
         match last {

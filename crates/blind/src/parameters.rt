@@ -36,19 +36,19 @@ impl Params {
         within(100, 10_000, self.rpt)
     }
 
-    pub(crate) fn pause(self) -> u64
+    pub fn pause(self) -> u64
         ensures { λ r. ⌜ r ≡ self .rpt ⌝ }
     {
         self.rpt as u64
     }
 
-    pub(crate) fn full_time(self) -> u64
+    pub fn full_time(self) -> u64
         ensures { λ r. ⌜ r ≡ fullTime self ⌝ }
     {
         self.mudt as u64
     }
 
-    pub(crate) fn bottom(self) -> u32
+    pub fn bottom(self) -> u32
         ensures { λ r. ⌜ r ≡ bottom self ⌝ }
     {
         self.mudt

@@ -1,0 +1,16 @@
+use borrow.Author.Needs.{needs}
+use Rattle.reading.specs.Reports.{active}
+use Rattle.reading.proofs.reports.is_active.Statement.{statement}
+use Rattle.reading.proofs.reports.is_active.Tie as tie
+
+pub is-active-spec : {M : Type 1} → statement M
+unfolding active
+is-active-spec =
+    tie.close
+    (tie.spec
+    (λ c. search needs)
+    (λ c. search needs)
+    (λ c. search needs)
+    (λ c. simp (c .enum-told .given .1))
+    (λ c. simp (c .enum-told2 .given .1))
+    (λ c. simp (c .enum-told3 .given .1)))

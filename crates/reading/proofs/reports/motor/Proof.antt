@@ -1,0 +1,17 @@
+use borrow.Author.Needs.{needs}
+use Rattle.reading.specs.Reports.{motorOf}
+use Rattle.reading.proofs.reports.motor.Statement.{statement}
+use Rattle.reading.proofs.reports.motor.Tie as tie
+
+pub motor-spec : {M : Type 1} → statement M
+unfolding motorOf
+motor-spec =
+    tie.close
+    (tie.spec
+    (λ c. search needs)
+    (λ c. search needs)
+    (λ c. search needs)
+    (λ c κs. search needs)
+    (λ c. simp (c .enum-told .given .1))
+    (λ c. simp (c .enum-told2 .given .1))
+    (λ c. simp (c .command .ensures, c .before .before .motion .given .1)))

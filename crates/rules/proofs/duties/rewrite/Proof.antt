@@ -1,0 +1,14 @@
+use borrow.Author.Needs.{needs}
+use Rattle.rules.specs.Edits.{rewritten}
+use Rattle.rules.proofs.duties.rewrite.Statement.{statement}
+use Rattle.rules.proofs.duties.rewrite.Tie as tie
+
+pub rewrite-spec : {M : Type 1} → statement M
+unfolding rewritten
+rewrite-spec =
+    tie.close
+    (tie.spec
+    (λ c κs. search needs)
+    (λ c κs. search needs)
+    (λ c κs. search needs)
+    (λ c. simp (c .ruled .ensures, c .before .before .pause .ensures, c .before .before .before .duty .ensures)))

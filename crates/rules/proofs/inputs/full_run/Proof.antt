@@ -1,0 +1,10 @@
+use borrow.Author.Needs.{needs}
+use Rattle.rules.proofs.inputs.full_run.Statement.{statement}
+use Rattle.rules.proofs.inputs.full_run.Tie as tie
+
+pub full-run-spec : {M : Type 1} → statement M
+full-run-spec =
+    tie.close
+    (tie.spec
+    (λ c κs. search needs)
+    (λ c. simp (c .full-time .ensures)))

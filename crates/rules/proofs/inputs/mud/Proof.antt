@@ -1,0 +1,13 @@
+use borrow.Author.Needs.{needs}
+use Rattle.rules.specs.Inputs.{mud}
+use Rattle.rules.proofs.inputs.mud.Statement.{statement}
+use Rattle.rules.proofs.inputs.mud.Tie as tie
+
+pub mud-spec : {M : Type 1} → statement M
+unfolding mud
+mud-spec =
+    tie.close
+    (tie.spec
+    (λ c κs. search needs)
+    (λ c κs. search needs)
+    (λ c. simp (c .order .ensures, c .before .full-run .ensures)))

@@ -1,0 +1,13 @@
+use borrow.Author.Needs.{needs}
+use Rattle.rules.specs.Inputs.{sapbp}
+use Rattle.rules.proofs.inputs.sapbp.Statement.{statement}
+use Rattle.rules.proofs.inputs.sapbp.Tie as tie
+
+pub sapbp-spec : {M : Type 1} → statement M
+unfolding sapbp
+sapbp-spec =
+    tie.close
+    (tie.spec
+    (λ c κs. search needs)
+    (λ c κs. search needs)
+    (λ c. simp (c .follow .ensures, c .before .aim .ensures)))

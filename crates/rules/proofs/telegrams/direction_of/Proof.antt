@@ -1,0 +1,11 @@
+use borrow.Author.Needs.{needs}
+use borrow.Author.Tests.{ne-eqb}
+use Rattle.rules.proofs.telegrams.direction_of.Statement.{statement}
+use Rattle.rules.proofs.telegrams.direction_of.Tie as tie
+
+pub direction-of-spec : {M : Type 1} → statement M
+direction-of-spec =
+    tie.close
+    (tie.spec
+    (λ c. simp (c .match .keys1))
+    (λ c. simp (ne-eqb _ _ (c .match .rest .1))))

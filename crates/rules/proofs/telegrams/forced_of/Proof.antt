@@ -1,0 +1,12 @@
+use borrow.Author.Needs.{needs}
+use borrow.Author.Tests.{ne-eqb}
+use Rattle.rules.proofs.telegrams.forced_of.Statement.{statement}
+use Rattle.rules.proofs.telegrams.forced_of.Tie as tie
+
+pub forced-of-spec : {M : Type 1} → statement M
+forced-of-spec =
+    tie.close
+    (tie.spec
+    (λ c. simp (c .match .keys1))
+    (λ c. simp (c .match .keys2))
+    (λ c. simp (ne-eqb _ _ (c .match .rest .1), ne-eqb _ _ (c .match .rest .0 .1))))

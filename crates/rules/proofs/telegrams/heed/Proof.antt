@@ -1,0 +1,25 @@
+use borrow.Author.Needs.{needs}
+use Rattle.rules.specs.Rules.{heeded}
+use Rattle.rules.proofs.telegrams.heed.Statement.{statement}
+use Rattle.rules.proofs.telegrams.heed.Tie as tie
+
+pub heed-spec : {M : Type 1} → statement M
+unfolding heeded
+heed-spec =
+    tie.close
+    (tie.spec
+    (λ c. search needs)
+    (λ c κs. search needs)
+    (λ c. search needs)
+    (λ c κs. search needs)
+    (λ c. search needs)
+    (λ c κs. search needs)
+    (λ c. search needs)
+    (λ c κs. search needs)
+    (λ c. search needs)
+    (λ c κs. search needs)
+    (λ c. simp (c .flag .ensures, c .before .before .input .given .1))
+    (λ c. simp (c .flag2 .ensures, c .before .before .input2 .given .1))
+    (λ c. simp (c .flag3 .ensures, c .before .before .input3 .given .1))
+    (λ c. simp (c .flag4 .ensures, c .before .before .input4 .given .1))
+    (λ c. simp (c .command-free .ensures, c .before .before .input5 .given .1)))
