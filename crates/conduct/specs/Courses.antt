@@ -1,0 +1,74 @@
+-- A course: telegrams and milliseconds, one after the other, and what is seen of a blind on the way.
+-- Assumes nothing.
+use Prim.Native.Nat.{ℕ, suc, _+_}
+use mathlib.Core.Path.{_≡_}
+use mathlib.Core.Bool.{true, false, cond}
+use mathlib.Core.List.{List, [], _∷_}
+use lib.Dec.{eqb}
+use Rattle.blind.specs.declared.Direction.{Direction}
+use Rattle.blind.specs.declared.Flags.{Flags}
+use Rattle.blind.specs.declared.Blind.{Blind}
+use Rattle.blind.specs.Fields.{withFlags}
+use Rattle.blind.specs.Millisecond.{millisecond}
+use Rattle.reading.specs.Reports.{motorOf}
+use Rattle.rules.specs.declared.Input.{Input}
+use Rattle.rules.specs.Rules.{dutyOf, sameDuty, isFree, heeded, withWind, withRain, withFrost, withForced}
+
+pub data Event : Type 0 where
+  telegram : Input → Event
+  passes : Event
+
+-- The blind after one event, and after a course of them.
+abbrev pub happened : Event → Blind → Blind
+happened (telegram input) b = heeded input b
+happened passes b = millisecond b
+
+unfoldable pub after : List Event → Blind → Blind
+after [] b = b
+after (event ∷ course) b = after course (happened event b)
+
+-- How many milliseconds a course lasts.
+unfoldable pub duration : List Event → ℕ
+duration [] = 0
+duration (telegram input ∷ course) = duration course
+duration (passes ∷ course) = suc (duration course)
+
+-- The motor command in force in each millisecond: the one at its beginning.
+unfoldable pub motors : List Event → Blind → List ℕ
+motors [] b = []
+motors (telegram input ∷ course) b = motors course (heeded input b)
+motors (passes ∷ course) b = motorOf b ∷ motors course (millisecond b)
+
+-- How many of them have the motor off.
+unfoldable pub offs : List ℕ → ℕ
+offs [] = 0
+offs (motor ∷ rest) = cond (eqb motor 0) 1 0 + offs rest
+
+abbrev pub opposite : Direction → Direction
+opposite Direction.Up = Direction.Down
+opposite Direction.Down = Direction.Up
+
+-- The flags that a telegram leaves: its own set anew, or as they were if it commands.
+abbrev pub flagsAfter : Input → Blind → Flags
+flagsAfter (Input.Wind on) b = withWind on (b .flags)
+flagsAfter (Input.Rain on) b = withRain on (b .flags)
+flagsAfter (Input.Frost on) b = withFrost on (b .flags)
+flagsAfter (Input.Force forced) b = withForced forced (b .flags)
+flagsAfter (Input.Command command) b = b .flags
+
+abbrev pub SameDuty : Input → Blind → Type 0
+SameDuty input b = sameDuty (dutyOf b) (dutyOf (withFlags (flagsAfter input b) b)) ≡ true
+
+-- A telegram that does not disturb: one that is dropped, or that changes no duty.
+abbrev pub Idle : Input → Blind → Type 0
+Idle (Input.Wind on) b = SameDuty (Input.Wind on) b
+Idle (Input.Rain on) b = SameDuty (Input.Rain on) b
+Idle (Input.Frost on) b = SameDuty (Input.Frost on) b
+Idle (Input.Force forced) b = SameDuty (Input.Force forced) b
+Idle (Input.Command command) b = isFree (dutyOf b) ≡ false
+
+-- A course in which nothing disturbs the blind.
+pub data Undisturbed : List Event → Blind → Type 0 where
+  ended : {b : Blind} → Undisturbed [] b
+  told : {b : Blind} {input : Input} {course : List Event} → Idle input b → Undisturbed course (heeded input b) → Undisturbed (telegram input ∷ course) b
+  passed : {b : Blind} {course : List Event} → Undisturbed course (millisecond b) → Undisturbed (passes ∷ course) b
