@@ -1,2 +1,5 @@
 pub mod AtOnce
 pub mod Soundness
+pub mod Duties
+pub mod Pause
+pub mod Undisturbed
