@@ -3,3 +3,4 @@ pub mod Soundness
 pub mod Duties
 pub mod Pause
 pub mod Undisturbed
+pub mod Arrivals

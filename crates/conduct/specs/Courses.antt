@@ -7,6 +7,8 @@ use mathlib.Core.List.{List, [], _∷_}
 use lib.Dec.{eqb}
 use Rattle.blind.specs.declared.Direction.{Direction}
 use Rattle.blind.specs.declared.Flags.{Flags}
+use Rattle.blind.specs.declared.Run.{Run}
+use Rattle.blind.specs.declared.Motion.{Motion}
 use Rattle.blind.specs.declared.Blind.{Blind}
 use Rattle.blind.specs.Fields.{withFlags}
 use Rattle.blind.specs.Millisecond.{millisecond}
@@ -89,3 +91,25 @@ pub data Undisturbed : List Event → Blind → Type 0 where
   told : {b : Blind} {input : Input} {of-class : OfClass input} {course : List Event} → Idle input b → Undisturbed course (heeded input b)
       → Undisturbed (telegram input of-class ∷ course) b
   passed : {b : Blind} {course : List Event} → Undisturbed course (millisecond b) → Undisturbed (passes ∷ course) b
+
+-- A run is on: it waits for the pause, or the motor runs it.
+pub data Engaged (run : Run) : Motion → Type 0 where
+  waits : (rest : ℕ) → Engaged run (Motion.Waits rest run)
+  runs : Engaged run (Motion.Runs run)
+
+-- How many milliseconds it takes until the motor is off again: what is left of the pause, and the length.
+abbrev pub untilEnd : Motion → ℕ
+untilEnd (Motion.Off rest) = 0
+untilEnd (Motion.Waits rest run) = rest + run .length
+untilEnd (Motion.Runs run) = run .length
+
+-- Where a blind stands once the motor is off again, if nothing disturbs it.
+abbrev pub Reaches : ℕ → Blind → Type 0
+Reaches position b =
+    (course : List Event) → Undisturbed course b → duration course ≡ untilEnd (b .motion) → after course b .position ≡ position
+
+-- What is seen of a blind when its full run is over: it stands at the position, which is known, and rests for a whole pause.
+pub record Ended (position : ℕ) (b b′ : Blind) : Type 0 where
+  pub there : b′ .position ≡ position
+  pub known : b′ .valid ≡ true
+  pub rests : b′ .motion ≡ Motion.Off (b .params .rpt)
