@@ -19,6 +19,12 @@ pub passed-by : (t : Bool) (n : ℕ) (rest : List Check) → t ≡ false → ref
 unfolding refusal
 passed-by t n rest e = ap (λ (b : Bool). cond b n (refusal rest)) e
 
+-- where the answer is done, the case of no check is there
+pub all-passed : (t : Bool) (n : ℕ) (rest : List Check) → refusal ((t, suc n) ∷ rest) ≡ 0 → (t ≡ false) × (refusal rest ≡ 0)
+unfolding refusal
+all-passed true n rest e = absurd (omega arith)
+all-passed false n rest e = (refl, e)
+
 -- no check is left: done
 pub none-left : refusal [] ≡ 0
 unfolding refusal
