@@ -153,6 +153,15 @@ module _ {A : Type 0} (key : A → ℕ) where
       go true p = List·Permᴰ·trans (List·Permᴰ·swap refl refl) (List·Permᴰ·cons refl p)
       go false p = Permᴰ·refl (a ∷ x ∷ xs)
 
+  pub inserted-length : (a : A) (xs : List A) → length (inserted key a xs) ≡ suc (length xs)
+  unfolding inserted
+  inserted-length a [] = refl
+  inserted-length a (x ∷ xs) = go (ltb (key x) (key a)) (inserted-length a xs)
+    where
+      go : (b : Bool) → length (inserted key a xs) ≡ suc (length xs) → length (cond b (x ∷ inserted key a xs) (a ∷ x ∷ xs)) ≡ suc (suc (length xs))
+      go true e = ap suc e
+      go false e = refl
+
   pub inserted-asc : (a : A) (xs : List A) → Asc key xs → isIn key a xs ≡ false → Asc key (inserted key a xs)
   unfolding inserted
   inserted-asc a [] asc new = (none, tt)
