@@ -1,6 +1,6 @@
 -- The test refuses an unsound table, the judge the rest; else the link goes to the place where the search for it ended.
 use native.Mathlib.Omega.{arith}
-use Prim.Native.Nat.{ℕ, _≤_, _<_}
+use Prim.Native.Nat.{ℕ, _≤_}
 use mathlib.Core.Path.{_≡_, sym, ap, _∙_}
 use mathlib.Core.Bool.{true}
 use lib.ListN.{length}

@@ -1,6 +1,4 @@
 -- The test refuses an unsound table; else two searches, for the first key of the address and of the next one, bound its links.
-use Prim.Native.Nat.{_≤_}
-use native.Mathlib.Omega.{arith}
 use mathlib.Core.Path.{_≡_, sym, ap, _∙_}
 use mathlib.Core.Bool.{true}
 use borrow.Author.Needs.{needs}
