@@ -2,8 +2,8 @@
 use Prim.Native.Nat.{ℕ}
 use mathlib.Core.Path.{_≡_, sym, ap, _∙_}
 use Rattle.answers.specs.Answers.{Outcome}
-use Rattle.links.specs.declared.table.Found.{Found}
-use Rattle.links.specs.declared.table.Classed.{Classed}
+use Rattle.links.specs.declared.addresses.Found.{Found}
+use Rattle.links.specs.declared.addresses.Classed.{Classed}
 use Rattle.links.specs.declared.edits.Edited.{Edited}
 use Rattle.links.specs.Links.{Held, heldOf}
 use Rattle.links.specs.Edits.{foundOf, classedOf, editedOf}

@@ -8,8 +8,8 @@ use lib.ListN.{length}
 use lib.Dec.{eqb, ltb, leb}
 use Rattle.answers.specs.Answers.{Check, refusal, Outcome, answered}
 use Rattle.links.specs.declared.link.Link.{Link}
-use Rattle.links.specs.declared.table.Found.{Found}
-use Rattle.links.specs.declared.table.Classed.{Classed}
+use Rattle.links.specs.declared.addresses.Found.{Found}
+use Rattle.links.specs.declared.addresses.Classed.{Classed}
 use Rattle.links.specs.declared.edits.Edited.{Edited}
 use Rattle.links.specs.Links.{kept, inRange, keyOf, classOf, Held, heldOf, holding, linksTo, startOf, addressClass}
 use Rattle.links.specs.Sound.{isSound, most}

@@ -73,6 +73,14 @@ fn clashes(class: u8, kind: u8) -> bool
 }
 
 impl Table {
+    // The place of a link: behind all links that are below it.
+    fn place_of(self, link: Link) -> usize
+        requires { ⌜ isSound (heldOf self) ≡ true ⌝ }
+        ensures { λ r. ⌜ r ≡ rank keyOf (keyOf link) (heldOf self .links) ⌝ }
+    {
+        self.below(link.key())
+    }
+
     // Whether a link stands at the place where the search for it ended.
     fn holds(self, link: Link, place: usize) -> bool
         requires { ⌜ isSound (heldOf self) ≡ true ⌝ }
@@ -178,16 +186,17 @@ impl Table {
         if !self.is_sound() {
             return Edited::refused(NOT_SOUND, self);
         }
-        let place = self.below(link.key());
+        let place = self.place_of(link);
         let answer = self.judge_new(link, place);
         if answer != DONE {
             return Edited::refused(answer, self);
         }
-        let table = self.with_at(place, link);
+        let count = self.count;
+        let grown = self.with_at(place, link);
         Edited {
             answer: DONE,
-            moved: (self.count - place) as u64,
-            table: table,
+            moved: (count - place) as u64,
+            table: grown,
         }
     }
 
@@ -198,15 +207,16 @@ impl Table {
         if !self.is_sound() {
             return Edited::refused(NOT_SOUND, self);
         }
-        let place = self.below(link.key());
+        let place = self.place_of(link);
         if !self.holds(link, place) {
             return Edited::refused(NO_LINK, self);
         }
-        let table = self.without_at(place);
+        let count = self.count;
+        let shrunk = self.without_at(place);
         Edited {
             answer: DONE,
-            moved: (self.count - 1 - place) as u64,
-            table: table,
+            moved: (count - 1 - place) as u64,
+            table: shrunk,
         }
     }
 
