@@ -1,9 +1,10 @@
 // Document 01, "Links and telegrams": the links of an address, where they stand and of which class they are.
+// Links of one address stand together, so two searches bound them and the first of them tells the class.
 
 ghost use Prim.Native.Nat.{_-_, _≤_};
 ghost use mathlib.Core.Path.{_≡_};
 ghost use mathlib.Core.Bool.{true};
-ghost use Rattle.links.specs.Links.{heldOf, addressClass};
+ghost use Rattle.links.specs.Links.{lastAddress, heldOf, addressClass};
 ghost use Rattle.links.specs.Sound.{isSound};
 ghost use Rattle.links.specs.Edits.{found, classed, foundOf, classedOf};
 use super::link::ADDRESS_STEP;
@@ -67,7 +68,7 @@ impl Table {
     // The class of an address, 0 where it has no link: the class of the first link that is not below the address.
     pub(crate) fn class_at(self, address: u64) -> u8
         requires { ⌜ isSound (heldOf self) ≡ true ⌝ }
-        requires { ⌜ address ≤ 65535 ⌝ }
+        requires { ⌜ address ≤ lastAddress ⌝ }
         ensures { λ r. ⌜ r ≡ addressClass address (heldOf self .links) ⌝ }
     {
         let start = self.below(address * ADDRESS_STEP);

@@ -9,7 +9,7 @@ ghost use lib.Dec.{eqb, ltb};
 ghost use lib.ListN.{take, drop};
 ghost use Rattle.answers.specs.Answers.{refusal};
 ghost use Rattle.links.specs.Links.{classOf, keyOf, rank, heldOf, holding};
-ghost use Rattle.links.specs.Sound.{isSound};
+ghost use Rattle.links.specs.Sound.{most, isSound};
 ghost use Rattle.links.specs.Edits.{isIn, moved, dropped, addChecks, added, removed, tagRemoved, editedOf};
 use super::link::Link;
 use super::link::class_of_kind;
@@ -120,7 +120,7 @@ impl Table {
     // The table with a link put in at a place: the links from there on move up by one.
     fn with_at(self, place: usize, link: Link) -> Table
         requires { ⌜ place ≤ self .count ⌝ }
-        requires { ⌜ self .count < 512 ⌝ }
+        requires { ⌜ self .count < most ⌝ }
         ensures { λ r. ⌜ heldOf r ≡ holding (take place (heldOf self .links) ++ link ∷ drop place (heldOf self .links)) ⌝ }
     {
         let count = self.count;
@@ -139,7 +139,7 @@ impl Table {
     // The table without the link at a place: the links behind it move down by one.
     fn without_at(self, place: usize) -> Table
         requires { ⌜ place < self .count ⌝ }
-        requires { ⌜ self .count ≤ 512 ⌝ }
+        requires { ⌜ self .count ≤ most ⌝ }
         ensures { λ r. ⌜ heldOf r ≡ holding (take place (heldOf self .links) ++ drop (suc place) (heldOf self .links)) ⌝ }
     {
         let count = self.count;

@@ -18,7 +18,7 @@ pub const MOST: usize = 512;
 
 pub struct Table {
     pub count: usize,
-    pub links: [Link; 512],
+    pub links: [Link; MOST],
 }
 
 impl Table {
@@ -28,7 +28,7 @@ impl Table {
     {
         Table {
             count: 0,
-            links: [Link::NOTHING; 512],
+            links: [Link::NOTHING; MOST],
         }
     }
 
