@@ -8,6 +8,7 @@ ghost use Rattle.links.specs.Links.{lastAddress, heldOf, addressClass};
 ghost use Rattle.links.specs.Sound.{isSound};
 ghost use Rattle.links.specs.Edits.{found, classed, foundOf, classedOf};
 use super::link::ADDRESS_STEP;
+use super::link::NO_CLASS;
 use super::link::class_of_kind;
 use super::table::Table;
 use answers::DONE;
@@ -59,13 +60,13 @@ impl Classed {
     {
         Classed {
             answer: answer,
-            class: 0,
+            class: NO_CLASS,
         }
     }
 }
 
 impl Table {
-    // The class of an address, 0 where it has no link: the class of the first link that is not below the address.
+    // The class of an address, if it has a link: that of the first link that is not below the address.
     pub(crate) fn class_at(self, address: u64) -> u8
         requires { ⌜ isSound (heldOf self) ≡ true ⌝ }
         requires { ⌜ address ≤ lastAddress ⌝ }
@@ -74,11 +75,11 @@ impl Table {
         let start = self.below(address * ADDRESS_STEP);
         let count = self.count;
         if count <= start {
-            return 0;
+            return NO_CLASS;
         }
         let first = self.links[start];
         if first.address as u64 != address {
-            return 0;
+            return NO_CLASS;
         }
         class_of_kind(first.kind)
     }
@@ -112,7 +113,7 @@ impl Table {
             return Classed::refused(NO_LINK);
         }
         let class = self.class_at(address);
-        if class == 0 {
+        if class == NO_CLASS {
             return Classed::refused(NO_LINK);
         }
         Classed {

@@ -12,6 +12,7 @@ ghost use Rattle.links.specs.Links.{classOf, keyOf, rank, heldOf, holdin
 ghost use Rattle.links.specs.Sound.{most, isSound};
 ghost use Rattle.links.specs.Edits.{isIn, moved, dropped, addChecks, added, removed, tagRemoved, editedOf};
 use super::link::Link;
+use super::link::NO_CLASS;
 use super::link::class_of_kind;
 use super::table::MOST;
 use super::table::Table;
@@ -66,7 +67,7 @@ fn places_moved(link: Link, tag: u64, old: usize, new: usize) -> u64
 fn clashes(class: u8, kind: u8) -> bool
     ensures { λ r. ⌜ r ≡ not (eqb class 0) && not (eqb class (classOf kind)) ⌝ }
 {
-    if class == 0 {
+    if class == NO_CLASS {
         return false;
     }
     class != class_of_kind(kind)

@@ -6,12 +6,7 @@ ghost use mathlib.Core.Bool.{true};
 ghost use mathlib.Core.List.{[]};
 ghost use Rattle.links.specs.Links.{keyOf, rank, heldOf, holding};
 ghost use Rattle.links.specs.Sound.{isSound};
-use super::link::ADDRESS_STEP;
 use super::link::Link;
-use super::link::class_of_kind;
-use answers::DONE;
-use answers::NO_LINK;
-use answers::NOT_SOUND;
 
 // The most links that a table holds.
 pub const MOST: usize = 512;
