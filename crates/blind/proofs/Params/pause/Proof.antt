@@ -1,3 +1,5 @@
+-- `Params::pause` is the parameter RPT.
+-- Assumes nothing.
 use borrow.Author.Needs.{needs}
 use Rattle.blind.proofs.Params.pause.Statement.{statement}
 use Rattle.blind.proofs.Params.pause.Tie as tie

@@ -1,3 +1,5 @@
+-- `command`: the direction that was matched picks the case of `command`.
+-- Assumes nothing.
 use borrow.Author.Needs.{needs}
 use Rattle.reading.proofs.reports.command.Statement.{statement}
 use Rattle.reading.proofs.reports.command.Tie as tie

@@ -1,3 +1,5 @@
+-- `alarm`: whether it is on, and the reaction that was matched, pick the case of `alarm`.
+-- Assumes nothing.
 use borrow.Author.Needs.{needs}
 use Rattle.rules.proofs.duties.alarm.Statement.{statement}
 use Rattle.rules.proofs.duties.alarm.Tie as tie

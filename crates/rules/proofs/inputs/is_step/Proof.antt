@@ -1,3 +1,5 @@
+-- `is_step`: the goal that was matched picks the case of `isStep`.
+-- Assumes nothing.
 use borrow.Author.Needs.{needs}
 use Rattle.rules.proofs.inputs.is_step.Statement.{statement}
 use Rattle.rules.proofs.inputs.is_step.Tie as tie

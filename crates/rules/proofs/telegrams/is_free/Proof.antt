@@ -1,3 +1,5 @@
+-- `is_free`: the duty that was matched picks the case of `isFree`.
+-- Assumes nothing.
 use borrow.Author.Needs.{needs}
 use Rattle.rules.proofs.telegrams.is_free.Statement.{statement}
 use Rattle.rules.proofs.telegrams.is_free.Tie as tie
