@@ -1,9 +1,10 @@
 -- Laws of `refusal` and `answered`, for any checks and for whatever a call leaves behind.
 -- Assumes nothing.
-use Prim.Native.Nat.{ℕ}
+use Prim.Native.Nat.{ℕ, suc}
+use native.Mathlib.Omega.{arith}
 use mathlib.Core.Bool.{Bool, true, false, cond}
 use mathlib.Core.List.{List, [], _∷_}
-use mathlib.Core.Path.{_≡_, refl, ap}
+use mathlib.Core.Path.{_≡_, refl, ap, _∙_}
 use lib.Dec.{eqb}
 use borrow.Author.Tests.{eq-eqb, ne-eqb}
 use Rattle.answers.specs.Answers.{Check, refusal, Outcome, answered}
@@ -33,3 +34,7 @@ module _ {A : Type 0} (number : ℕ) (before : A) (count : ℕ) (after : A) wher
   pub refused : (number ≡ 0 → ⊥) → answered number before count after ≡ record { answer = number; count = 0; leaves = before }
   unfolding answered
   refused h = rw (ne-eqb _ _ h)
+
+  -- the answer is one of the numbers above 0
+  pub refused-as : (n : ℕ) → number ≡ suc n → answered number before count after ≡ record { answer = suc n; count = 0; leaves = before }
+  refused-as n e = refused (λ zero. omega arith) ∙ ap (λ (m : ℕ). record { answer = m; count = 0; leaves = before }) e

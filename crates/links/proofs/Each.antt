@@ -1,0 +1,174 @@
+-- What holds of each element of a list, and the elements that pass a test. All by recursion on the list.
+-- Assumes nothing.
+use Prim.Native.Nat.{ℕ, zero, suc, _+_, _≤_, _<_}
+use native.Mathlib.Omega.{arith}
+use mathlib.Core.Path.{_≡_, refl, sym, ap, _∙_, subst, subst₂}
+use mathlib.Core.Bool.{Bool, true, false, cond, true≢false}
+use mathlib.Core.List.{List, [], _∷_, _++_, List·Permᴰ, List·Permᴰ·nil, List·Permᴰ·cons, List·Permᴰ·swap, List·Permᴰ·trans}
+use lib.ListN.{length, getD, drop}
+use Rattle.links.specs.Links.{kept}
+
+-- P holds of each element
+pub data Each {A : Type 0} (P : A → Type 0) : List A → Type 0 where
+  none : Each P []
+  more : {x : A} {xs : List A} → P x → Each P xs → Each P (x ∷ xs)
+
+module _ {A : Type 0} {P : A → Type 0} where
+  pub first : {x : A} {xs : List A} → Each P (x ∷ xs) → P x
+  first (more h t) = h
+
+  pub rest : {x : A} {xs : List A} → Each P (x ∷ xs) → Each P xs
+  rest (more h t) = t
+
+  pub each-at : (xs : List A) (d : A) (i : ℕ) → i < length xs → Each P xs → P (getD xs i d)
+  each-at [] d i h e = absurd (omega arith)
+  each-at (x ∷ xs) d zero h e = first e
+  each-at (x ∷ xs) d (suc i) h e = each-at xs d i (omega arith) (rest e)
+
+  pub each-of : (xs : List A) (d : A) → ((i : ℕ) → i < length xs → P (getD xs i d)) → Each P xs
+  each-of [] d f = none
+  each-of (x ∷ xs) d f = more (f 0 (omega arith)) (each-of xs d (λ i h. f (suc i) (omega arith)))
+
+  pub each-left : (xs ys : List A) → Each P (xs ++ ys) → Each P xs
+  each-left [] ys e = none
+  each-left (x ∷ xs) ys e = more (first e) (each-left xs ys (rest e))
+
+  pub each-right : (xs ys : List A) → Each P (xs ++ ys) → Each P ys
+  each-right [] ys e = e
+  each-right (x ∷ xs) ys e = each-right xs ys (rest e)
+
+  pub each-join : (xs ys : List A) → Each P xs → Each P ys → Each P (xs ++ ys)
+  each-join [] ys e f = f
+  each-join (x ∷ xs) ys e f = more (first e) (each-join xs ys (rest e) f)
+
+  pub each-kept : (p : A → Bool) (xs : List A) → Each P xs → Each P (kept p xs)
+  unfolding kept
+  each-kept p [] e = none
+  each-kept p (x ∷ xs) e = go (p x) (each-kept p xs (rest e))
+    where
+      go : (b : Bool) → Each P (kept p xs) → Each P (cond b (x ∷ kept p xs) (kept p xs))
+      go true r = more (first e) r
+      go false r = r
+
+  pub each-perm : {xs ys : List A} → List·Permᴰ xs ys → Each P xs → Each P ys
+  each-perm List·Permᴰ·nil e = e
+  each-perm (List·Permᴰ·cons same perm) e = more (subst P same (first e)) (each-perm perm (rest e))
+  each-perm (List·Permᴰ·swap one two) e = more (subst P two (first (rest e))) (more (subst P one (first e)) (rest (rest e)))
+  each-perm (List·Permᴰ·trans p q) e = each-perm q (each-perm p e)
+
+module _ {A : Type 0} {P Q : A → Type 0} where
+  pub each-map : {xs : List A} → ((x : A) → P x → Q x) → Each P xs → Each Q xs
+  each-map f none = none
+  each-map f (more {x = x} h t) = more (f x h) (each-map f t)
+
+  pub each-both : {xs : List A} → Each P xs → Each Q xs → Each (λ x. P x × Q x) xs
+  each-both none f = none
+  each-both (more h t) f = more (h, first f) (each-both t (rest f))
+
+-- R holds of any two elements, the first standing before the second
+abbrev pub Pairs : {A : Type 0} → (A → A → Type 0) → List A → Type 0
+Pairs R [] = Unit {0}
+Pairs R (x ∷ xs) = Each (R x) xs × Pairs R xs
+
+module _ {A : Type 0} (R : A → A → Type 0) where
+  pub pairs-at : (xs : List A) (d : A) (i j : ℕ) → i < j → j < length xs → Pairs R xs → R (getD xs i d) (getD xs j d)
+  pairs-at [] d i j h k r = absurd (omega arith)
+  pairs-at (x ∷ xs) d i zero h k r = absurd (omega arith)
+  pairs-at (x ∷ xs) d zero (suc j) h k r = each-at xs d j (omega arith) (r .0)
+  pairs-at (x ∷ xs) d (suc i) (suc j) h k r = pairs-at xs d i j (omega arith) (omega arith) (r .1)
+
+  pub pairs-of : (xs : List A) (d : A) → ((i j : ℕ) → i < j → j < length xs → R (getD xs i d) (getD xs j d)) → Pairs R xs
+  pairs-of [] d f = tt
+  pairs-of (x ∷ xs) d f =
+      (each-of xs d (λ j h. f 0 (suc j) (omega arith) (omega arith)), pairs-of xs d (λ i j h k. f (suc i) (suc j) (omega arith) (omega arith)))
+
+  pub pairs-drop : (n : ℕ) (xs : List A) → Pairs R xs → Pairs R (drop n xs)
+  pairs-drop zero xs r = r
+  pairs-drop (suc n) [] r = r
+  pairs-drop (suc n) (x ∷ xs) r = pairs-drop n xs (r .1)
+
+  pub pairs-right : (xs ys : List A) → Pairs R (xs ++ ys) → Pairs R ys
+  pairs-right [] ys r = r
+  pairs-right (x ∷ xs) ys r = pairs-right xs ys (r .1)
+
+  pub pairs-kept : (p : A → Bool) (xs : List A) → Pairs R xs → Pairs R (kept p xs)
+  unfolding kept
+  pairs-kept p [] r = tt
+  pairs-kept p (x ∷ xs) r = go (p x) (pairs-kept p xs (r .1))
+    where
+      go : (b : Bool) → Pairs R (kept p xs) → Pairs R (cond b (x ∷ kept p xs) (kept p xs))
+      go true q = (each-kept p xs (r .0), q)
+      go false q = q
+
+  -- where R holds either way, the order does not matter
+  pub pairs-perm : ((x y : A) → R x y → R y x) → {xs ys : List A} → List·Permᴰ xs ys → Pairs R xs → Pairs R ys
+  pairs-perm back List·Permᴰ·nil r = r
+  pairs-perm back (List·Permᴰ·cons {l₂ = l₂} same perm) r =
+      (subst (λ (z : A). Each (R z) l₂) same (each-perm perm (r .0)), pairs-perm back perm (r .1))
+  pairs-perm back (List·Permᴰ·swap {a = a} {b = b} {l = l} one two) r =
+      subst₂ (λ (u v : A). Pairs R (u ∷ v ∷ l)) two one (more (back a b (first (r .0))) (r .1 .0), (rest (r .0), r .1 .1))
+  pairs-perm back (List·Permᴰ·trans p q) r = pairs-perm back q (pairs-perm back p r)
+
+module _ {A : Type 0} {R S : A → A → Type 0} where
+  pub pairs-map : (xs : List A) → ((x y : A) → R x y → S x y) → Pairs R xs → Pairs S xs
+  pairs-map [] f r = tt
+  pairs-map (x ∷ xs) f r = (each-map (f x) (r .0), pairs-map xs f (r .1))
+
+module _ {A : Type 0} (p : A → Bool) where
+  -- one element more: kept where it passes
+  pub kept-yes : (x : A) (xs : List A) → p x ≡ true → kept p (x ∷ xs) ≡ x ∷ kept p xs
+  unfolding kept
+  kept-yes x xs e = rw e
+
+  pub kept-not : (x : A) (xs : List A) → p x ≡ false → kept p (x ∷ xs) ≡ kept p xs
+  unfolding kept
+  kept-not x xs e = rw e
+
+  pub kept-append : (xs ys : List A) → kept p (xs ++ ys) ≡ kept p xs ++ kept p ys
+  unfolding kept
+  kept-append [] ys = refl
+  kept-append (x ∷ xs) ys = go (p x) (kept-append xs ys)
+    where
+      go : (b : Bool) → kept p (xs ++ ys) ≡ kept p xs ++ kept p ys → cond b (x ∷ kept p (xs ++ ys)) (kept p (xs ++ ys)) ≡ cond b (x ∷ kept p xs) (kept p xs) ++ kept p ys
+      go true e = ap (λ (l : List A). x ∷ l) e
+      go false e = e
+
+  -- everything passes, or nothing does
+  pub kept-all : (xs : List A) → Each (λ x. p x ≡ true) xs → kept p xs ≡ xs
+  unfolding kept
+  kept-all [] e = refl
+  kept-all (x ∷ xs) e = rw (first e) (ap (λ (l : List A). x ∷ l) (kept-all xs (rest e)))
+
+  pub kept-none : (xs : List A) → Each (λ x. p x ≡ false) xs → kept p xs ≡ []
+  unfolding kept
+  kept-none [] e = refl
+  kept-none (x ∷ xs) e = rw (first e) (kept-none xs (rest e))
+
+  -- no more are kept than there were
+  pub kept-length : (xs : List A) → length (kept p xs) ≤ length xs
+  unfolding kept
+  kept-length [] = omega arith
+  kept-length (x ∷ xs) = go (p x) (kept-length xs)
+    where
+      go : (b : Bool) → length (kept p xs) ≤ length xs → length (cond b (x ∷ kept p xs) (kept p xs)) ≤ suc (length xs)
+      go true h = omega arith
+      go false h = omega arith
+
+-- tests that agree on each element keep the same
+pub kept-same : {A : Type 0} (p q : A → Bool) (xs : List A) → Each (λ x. p x ≡ q x) xs → kept p xs ≡ kept q xs
+unfolding kept
+kept-same p q [] e = refl
+kept-same p q (x ∷ xs) e = rw (first e, kept-same p q xs (rest e))
+
+-- what a test keeps of what another kept: where the second drops nothing that the first keeps, the first alone
+pub kept-kept : {A : Type 0} (p q : A → Bool) (xs : List A) → ((x : A) → p x ≡ true → q x ≡ true) → kept p (kept q xs) ≡ kept p xs
+unfolding kept
+kept-kept p q [] f = refl
+kept-kept {A} p q (x ∷ xs) f = go (p x) (q x) refl refl (kept-kept p q xs f)
+  where
+    go : (b c : Bool) → p x ≡ b → q x ≡ c → kept p (kept q xs) ≡ kept p xs
+        → kept p (cond c (x ∷ kept q xs) (kept q xs)) ≡ cond b (x ∷ kept p xs) (kept p xs)
+    go true true e g ih = rw e (ap (λ (l : List A). x ∷ l) ih)
+    go true false e g ih = absurd (true≢false (sym (f x e) ∙ g))
+    go false true e g ih = rw e ih
+    go false false e g ih = ih

@@ -1,0 +1,211 @@
+-- Lists that ascend by a key: how many elements stand below a key says where one is, where a new one goes, and what a removal leaves.
+-- All by recursion on the list, with a case on the first element. Assumes nothing.
+use Prim.Native.Nat.{ℕ, zero, suc, _+_, _-_, _≤_, _<_}
+use native.Mathlib.Omega.{arith}
+use native.Mathlib.Decide.{decLt}
+use native.Mathlib.Numerals.{add-one}
+use mathlib.Core.Path.{_≡_, refl, sym, ap, ap₂, _∙_, subst}
+use mathlib.Core.Bool.{Bool, true, false, cond, not, _&&_, _||_, true≢false}
+use mathlib.Core.List.{List, [], _∷_, _++_, List·Permᴰ, List·Permᴰ·nil, List·Permᴰ·cons, List·Permᴰ·swap, List·Permᴰ·trans, Permᴰ·refl}
+use lib.ListN.{length, getD, take, drop}
+use lib.Seq.{drop-cons}
+use lib.Dec.{eqb, ltb, leb·suc-suc}
+use borrow.Author.Tests.{lt-ltb, le-ltb, ltb-true, ltb-false, eq-eqb, ne-eqb, eqb-true, eqb-false}
+use Rattle.links.specs.Links.{kept, rank}
+use Rattle.links.specs.Edits.{isIn, inserted, deleted}
+use Rattle.links.proofs.Each.{Each, none, more, first, rest, Pairs, pairs-drop, each-map, each-kept, each-perm, kept-yes, kept-not, kept-all, kept-none, kept-length}
+
+-- each element is below all behind it
+abbrev pub Asc : {A : Type 0} → (A → ℕ) → List A → Type 0
+Asc key = Pairs (λ x y. key x < key y)
+
+module _ {A : Type 0} (key : A → ℕ) where
+  -- what stands behind an element is above whatever the element is not below
+  pub above-all : (k : ℕ) (x : A) (xs : List A) → Asc key (x ∷ xs) → k ≤ key x → Each (λ y. k ≤ key y) (x ∷ xs)
+  above-all k x xs a h = more h (each-map (λ y i. omega arith) (a .0))
+
+  -- ---- how many stand below a key
+
+  pub rank-below : (k : ℕ) (x : A) (xs : List A) → key x < k → rank key k (x ∷ xs) ≡ suc (rank key k xs)
+  unfolding rank
+  rank-below k x xs h = ap length (kept-yes (λ y. ltb (key y) k) x xs (lt-ltb (key x) k h))
+
+  pub rank-none : (k : ℕ) (xs : List A) → Each (λ x. k ≤ key x) xs → rank key k xs ≡ 0
+  unfolding rank
+  rank-none k xs e = ap length (kept-none (λ y. ltb (key y) k) xs (each-map (λ x h. le-ltb (key x) k h) e))
+
+  pub rank-first : (k : ℕ) (x : A) (xs : List A) → Asc key (x ∷ xs) → k ≤ key x → rank key k (x ∷ xs) ≡ 0
+  rank-first k x xs a h = rank-none k (x ∷ xs) (above-all k x xs a h)
+
+  pub rank-bounded : (k : ℕ) (xs : List A) → rank key k xs ≤ length xs
+  unfolding rank
+  rank-bounded k xs = kept-length (λ y. ltb (key y) k) xs
+
+  -- a walk from the front: the elements passed, and those below the key in what is left, are all below the key
+  pub rank-more : (k : ℕ) (xs : List A) (d : A) (i r : ℕ) → i < length xs → key (getD xs i d) < k
+      → i + rank key k (drop i xs) ≡ r → i + 1 + rank key k (drop (i + 1) xs) ≡ r
+  rank-more k xs d i r h below e =
+      let one : rank key k (drop i xs) ≡ suc (rank key k (drop (i + 1) xs)) =
+      ap (rank key k) (drop-cons xs i d h) ∙ rank-below k (getD xs i d) (drop (suc i) xs) below
+      ∙ ap (λ (n : ℕ). suc (rank key k (drop n xs))) (sym (add-one i)) in
+      omega arith
+
+  pub rank-stop : (k : ℕ) (xs : List A) (d : A) (i r : ℕ) → Asc key xs → i < length xs → k ≤ key (getD xs i d)
+      → i + rank key k (drop i xs) ≡ r → i ≡ r
+  rank-stop k xs d i r a h above e =
+      let zeroes : rank key k (drop i xs) ≡ 0 =
+      ap (rank key k) (drop-cons xs i d h)
+      ∙ rank-first k (getD xs i d) (drop (suc i) xs) (subst (Asc key) (drop-cons xs i d h) (pairs-drop (λ x y. key x < key y) i xs a)) above in
+      omega arith
+
+  pub rank-end : (k : ℕ) (xs : List A) (i r : ℕ) → length xs ≤ i → i + rank key k (drop i xs) ≡ r → i ≡ r
+  rank-end k xs i r h e =
+      let zeroes : rank key k (drop i xs) ≡ 0 = ap (rank key k) (lib.ListN.drop-of-length-le xs h) ∙ rank-none k [] none in
+      omega arith
+
+  -- ---- whether an element is there
+
+  pub is-in-none : (a : A) (xs : List A) → Each (λ x. key x ≡ key a → ⊥) xs → isIn key a xs ≡ false
+  unfolding isIn
+  is-in-none a [] e = refl
+  is-in-none a (x ∷ xs) e = rw (ne-eqb (key x) (key a) (first e)) (is-in-none a xs (rest e))
+
+  pub not-in : (a : A) (xs : List A) → isIn key a xs ≡ false → Each (λ x. key x ≡ key a → ⊥) xs
+  unfolding isIn
+  not-in a [] e = none
+  not-in a (x ∷ xs) e = go (eqb (key x) (key a)) refl e (not-in a xs)
+    where
+      go : (b : Bool) → eqb (key x) (key a) ≡ b → b || isIn key a xs ≡ false → (isIn key a xs ≡ false → Each (λ x. key x ≡ key a → ⊥) xs)
+          → Each (λ x. key x ≡ key a → ⊥) (x ∷ xs)
+      go true f g ih = absurd (true≢false g)
+      go false f g ih = more (eqb-false (key x) (key a) f) (ih g)
+
+  -- above what stands first, an element is nowhere
+  pub above-not-in : (a x : A) (xs : List A) → Asc key (x ∷ xs) → key a < key x → isIn key a (x ∷ xs) ≡ false
+  above-not-in a x xs asc h = is-in-none a (x ∷ xs) (more (λ e. omega arith) (each-map (λ y i e. omega arith) (asc .0)))
+
+  -- it is there exactly if it stands behind all that are below it
+  pub is-in-at : (a : A) (xs : List A) (d : A) → Asc key xs
+      → isIn key a xs ≡ ltb (rank key (key a) xs) (length xs) && eqb (key (getD xs (rank key (key a) xs) d)) (key a)
+  unfolding isIn
+  is-in-at a [] d asc = rw (rank-none (key a) [] none)
+  is-in-at a (x ∷ xs) d asc = go (decLt (key x) (key a)) (is-in-at a xs d (asc .1))
+    where
+      low : key x < key a → eqb (key x) (key a) ≡ false
+      low h = ne-eqb (key x) (key a) (λ e. omega arith)
+
+      high : (key x < key a → ⊥) → (b : Bool) → eqb (key x) (key a) ≡ b → eqb (key x) (key a) || isIn key a xs ≡ eqb (key x) (key a)
+      high h true e = rw e
+      high h false e = rw e (is-in-none a xs (each-map (λ y i f. omega (arith, eqb-false (key x) (key a) e)) (asc .0)))
+
+      go : Dec (key x < key a) → isIn key a xs ≡ ltb (rank key (key a) xs) (length xs) && eqb (key (getD xs (rank key (key a) xs) d)) (key a)
+          → eqb (key x) (key a) || isIn key a xs
+          ≡ ltb (rank key (key a) (x ∷ xs)) (suc (length xs)) && eqb (key (getD (x ∷ xs) (rank key (key a) (x ∷ xs)) d)) (key a)
+      go (yes h) ih = rw (low h, rank-below (key a) x xs h, leb·suc-suc (suc (rank key (key a) xs)) (length xs)) ih
+      go (no h) ih = rw (rank-first (key a) x xs asc (omega arith), lt-ltb 0 (suc (length xs)) (omega arith)) (high h (eqb (key x) (key a)) refl)
+
+  -- ---- a new element
+
+  pub inserted-below : (a x : A) (xs : List A) → key x < key a → inserted key a (x ∷ xs) ≡ x ∷ inserted key a xs
+  unfolding inserted
+  inserted-below a x xs h = rw (lt-ltb (key x) (key a) h)
+
+  pub inserted-above : (a x : A) (xs : List A) → key a ≤ key x → inserted key a (x ∷ xs) ≡ a ∷ x ∷ xs
+  unfolding inserted
+  inserted-above a x xs h = rw (le-ltb (key x) (key a) h)
+
+  -- it goes behind all that are below it
+  pub inserted-at : (a : A) (xs : List A) → Asc key xs
+      → inserted key a xs ≡ take (rank key (key a) xs) xs ++ a ∷ drop (rank key (key a) xs) xs
+  unfolding inserted
+  inserted-at a [] asc = rw (rank-none (key a) [] none)
+  inserted-at a (x ∷ xs) asc = go (decLt (key x) (key a)) (inserted-at a xs (asc .1))
+    where
+      go : Dec (key x < key a) → inserted key a xs ≡ take (rank key (key a) xs) xs ++ a ∷ drop (rank key (key a) xs) xs
+          → inserted key a (x ∷ xs) ≡ take (rank key (key a) (x ∷ xs)) (x ∷ xs) ++ a ∷ drop (rank key (key a) (x ∷ xs)) (x ∷ xs)
+      go (yes h) ih = rw (inserted-below a x xs h, rank-below (key a) x xs h) (ap (λ (l : List A). x ∷ l) ih)
+      go (no h) ih = rw (inserted-above a x xs (omega arith), rank-first (key a) x xs asc (omega arith))
+
+  -- the elements are those that were there, and the new one
+  pub inserted-perm : (a : A) (xs : List A) → List·Permᴰ (a ∷ xs) (inserted key a xs)
+  unfolding inserted
+  inserted-perm a [] = Permᴰ·refl (a ∷ [])
+  inserted-perm a (x ∷ xs) = go (ltb (key x) (key a)) (inserted-perm a xs)
+    where
+      go : (b : Bool) → List·Permᴰ (a ∷ xs) (inserted key a xs) → List·Permᴰ (a ∷ x ∷ xs) (cond b (x ∷ inserted key a xs) (a ∷ x ∷ xs))
+      go true p = List·Permᴰ·trans (List·Permᴰ·swap refl refl) (List·Permᴰ·cons refl p)
+      go false p = Permᴰ·refl (a ∷ x ∷ xs)
+
+  pub inserted-asc : (a : A) (xs : List A) → Asc key xs → isIn key a xs ≡ false → Asc key (inserted key a xs)
+  unfolding inserted
+  inserted-asc a [] asc new = (none, tt)
+  inserted-asc a (x ∷ xs) asc new = go (decLt (key x) (key a)) (inserted-asc a xs (asc .1))
+    where
+      apart : Each (λ y. key y ≡ key a → ⊥) (x ∷ xs)
+      apart = not-in a (x ∷ xs) new
+
+      go : Dec (key x < key a) → (isIn key a xs ≡ false → Asc key (inserted key a xs)) → Asc key (inserted key a (x ∷ xs))
+      go (yes h) ih =
+          subst (Asc key) (sym (inserted-below a x xs h))
+          (each-perm (inserted-perm a xs) (more h (asc .0)), ih (is-in-none a xs (rest apart)))
+      go (no h) ih =
+          let below : key a < key x = omega (arith, first apart) in
+          subst (Asc key) (sym (inserted-above a x xs (omega arith)))
+          (more below (each-map (λ y i. omega arith) (asc .0)), asc)
+
+  -- two new elements may come in either order
+  pub inserted-both : (a b : A) (xs : List A) → key a < key b → inserted key a (inserted key b xs) ≡ inserted key b (inserted key a xs)
+  unfolding inserted
+  inserted-both a b [] h = rw (lt-ltb (key a) (key b) h, le-ltb (key b) (key a) (omega arith))
+  inserted-both a b (x ∷ xs) h = go (decLt (key x) (key a)) (decLt (key x) (key b)) (inserted-both a b xs h)
+    where
+      go : Dec (key x < key a) → Dec (key x < key b) → inserted key a (inserted key b xs) ≡ inserted key b (inserted key a xs)
+          → inserted key a (inserted key b (x ∷ xs)) ≡ inserted key b (inserted key a (x ∷ xs))
+      go (yes i) (yes j) ih =
+          rw (inserted-below b x xs j, inserted-below a x xs i, inserted-below a x (inserted key b xs) i, inserted-below b x (inserted key a xs) j)
+          (ap (λ (l : List A). x ∷ l) ih)
+      go (yes i) (no j) ih = absurd (omega arith)
+      go (no i) (yes j) ih =
+          rw (inserted-below b x xs j, inserted-above a x xs (omega arith), inserted-above a x (inserted key b xs) (omega arith), inserted-below b a (x ∷ xs) h, inserted-below b x xs j)
+      go (no i) (no j) ih =
+          ap (inserted key a) (inserted-above b x xs (omega arith)) ∙ inserted-above a b (x ∷ xs) (omega arith)
+          ∙ sym (ap (inserted key b) (inserted-above a x xs (omega arith)) ∙ inserted-below b a (x ∷ xs) h
+          ∙ ap (λ (l : List A). a ∷ l) (inserted-above b x xs (omega arith)))
+
+  pub inserted-swap : (a b : A) (xs : List A) → (key a ≡ key b → ⊥) → inserted key a (inserted key b xs) ≡ inserted key b (inserted key a xs)
+  inserted-swap a b xs h = go (decLt (key a) (key b))
+    where
+      go : Dec (key a < key b) → inserted key a (inserted key b xs) ≡ inserted key b (inserted key a xs)
+      go (yes i) = inserted-both a b xs i
+      go (no i) = sym (inserted-both b a xs (omega arith))
+
+  -- above all others it goes last
+  pub inserted-last : (a : A) (xs : List A) → Each (λ x. key x < key a) xs → inserted key a xs ≡ xs ++ (a ∷ [])
+  unfolding inserted
+  inserted-last a [] e = refl
+  inserted-last a (x ∷ xs) e = inserted-below a x xs (first e) ∙ ap (λ (l : List A). x ∷ l) (inserted-last a xs (rest e))
+
+  -- ---- an element that goes
+
+  -- the test that all but one element pass
+  abbrev pub others : A → A → Bool
+  others a y = not (eqb (key y) (key a))
+
+  pub others-pass : (a y : A) → (key y ≡ key a → ⊥) → others a y ≡ true
+  others-pass a y n = ap not (ne-eqb (key y) (key a) n)
+
+  pub deleted-at : (a : A) (xs : List A) (d : A) → Asc key xs → rank key (key a) xs < length xs → key (getD xs (rank key (key a) xs) d) ≡ key a
+      → deleted key a xs ≡ take (rank key (key a) xs) xs ++ drop (suc (rank key (key a) xs)) xs
+  unfolding deleted
+  deleted-at a [] d asc h e = absurd (omega arith)
+  deleted-at a (x ∷ xs) d asc h e = go (decLt (key x) (key a)) (deleted-at a xs d (asc .1)) h e
+    where
+      go : Dec (key x < key a)
+          → (rank key (key a) xs < length xs → key (getD xs (rank key (key a) xs) d) ≡ key a
+          → deleted key a xs ≡ take (rank key (key a) xs) xs ++ drop (suc (rank key (key a) xs)) xs)
+          → rank key (key a) (x ∷ xs) < suc (length xs) → key (getD (x ∷ xs) (rank key (key a) (x ∷ xs)) d) ≡ key a
+          → kept (others a) (x ∷ xs) ≡ take (rank key (key a) (x ∷ xs)) (x ∷ xs) ++ drop (suc (rank key (key a) (x ∷ xs))) (x ∷ xs)
+      go (yes i) ih = rw (rank-below (key a) x xs i, kept-yes (others a) x xs (others-pass a x (λ f. omega arith))) (λ h′ e′. ap (λ (l : List A). x ∷ l) (ih (omega arith) e′))
+      go (no i) ih =
+          rw (rank-first (key a) x xs asc (omega arith))
+          (λ h′ e′. kept-not (others a) x xs (ap not (eq-eqb (key x) (key a) e′)) ∙ kept-all (others a) xs (each-map (λ y j. others-pass a y (λ f. omega arith)) (asc .0)))

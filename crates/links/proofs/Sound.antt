@@ -1,0 +1,207 @@
+-- Soundness of links: the test of neighbours, the statement over any two links, and what edits need (`Fine`) agree.
+-- Between two links of one address all links have that address, so a class goes from neighbour to neighbour. Assumes nothing.
+use Prim.Native.Nat.{ℕ, _+_, _≤_, _<_}
+use native.Mathlib.Numerals.{add-one}
+use native.Mathlib.Omega.{arith}
+use mathlib.Core.Path.{_≡_, refl, sym, ap, ap₂, _∙_}
+use mathlib.Core.Logic.{_↔_}
+use mathlib.Core.Bool.{Bool, true, false, not, _&&_, _||_, and-eq-true-iff}
+use mathlib.Core.List.{List, [], _∷_}
+use lib.ListN.{length, getD, drop, drop-of-length-le}
+use lib.Seq.{drop-cons}
+use lib.Dec.{eqb, ltb, leb}
+use borrow.Author.Tests.{leb-true, le-leb, lt-leb, ltb-true, lt-ltb, le-ltb, eqb-true, eq-eqb, ne-eqb}
+use Rattle.links.specs.declared.link.Link.{Link}
+use Rattle.links.specs.Links.{kept, inRange, keyOf, classOf, Held, addressClass}
+use Rattle.links.specs.Sound.{most, Before, nothing, Sound, mayFollow, inOrder, isSound}
+use Rattle.links.specs.Edits.{isIn, inserted, otherClass}
+use Rattle.links.proofs.Each.{Each, none, more, first, rest, Pairs, each-at, each-of, each-map, each-both, each-kept, each-perm, pairs-at, pairs-of, pairs-kept, pairs-perm}
+use Rattle.links.proofs.Order.{Asc, inserted-asc, inserted-perm}
+use Rattle.links.proofs.Keys.{InRange, range-reads, range-holds, before-key, key-before, key-address, class-some}
+
+-- two links of one address have one class
+abbrev pub Agree : Link → Link → Type 0
+Agree a b = a .address ≡ b .address → classOf (a .kind) ≡ classOf (b .kind)
+
+-- links as a sound table has them
+pub record Fine (ls : List Link) : Type 0 where
+  pub ranged : Each InRange ls
+  pub ascends : Asc keyOf ls
+  pub agrees : Pairs Agree ls
+
+-- ---- the test
+
+-- what a link that may follow another tells
+pub follow-reads : (last next : Link) → mayFollow last next ≡ true → InRange next × (keyOf last < keyOf next) × Agree last next
+unfolding mayFollow
+follow-reads last next e =
+    let abc : (inRange next && ltb (keyOf last) (keyOf next) ≡ true) × (not (eqb (next .address) (last .address)) || eqb (classOf (next .kind)) (classOf (last .kind)) ≡ true) =
+    and-eq-true-iff (inRange next && ltb (keyOf last) (keyOf next)) _ .0 e in
+    let ab : (inRange next ≡ true) × (ltb (keyOf last) (keyOf next) ≡ true) = and-eq-true-iff (inRange next) _ .0 (abc .0) in (
+      range-reads next (ab .0),
+      ltb-true (keyOf last) (keyOf next) (ab .1),
+      λ same. sym (eqb-true (classOf (next .kind)) (classOf (last .kind)) (rw (eq-eqb (next .address) (last .address) (sym same)) at (abc .1))),
+    )
+
+pub follow-holds : (last next : Link) → InRange next → keyOf last < keyOf next → Agree last next → mayFollow last next ≡ true
+unfolding mayFollow
+follow-holds last next r h agree = rw (range-holds next r, lt-ltb (keyOf last) (keyOf next) h) (go (eqb (next .address) (last .address)) refl)
+  where
+    go : (b : Bool) → eqb (next .address) (last .address) ≡ b → not b || eqb (classOf (next .kind)) (classOf (last .kind)) ≡ true
+    go true e = eq-eqb (classOf (next .kind)) (classOf (last .kind)) (sym (agree (sym (eqb-true (next .address) (last .address) e))))
+    go false e = refl
+
+-- the neighbours are in order: then the links are fine, and stand so behind the last one
+order-reads : (last : Link) (ls : List Link) → inOrder last ls ≡ true → Each InRange ls × Asc keyOf (last ∷ ls) × Pairs Agree (last ∷ ls)
+unfolding inOrder
+order-reads last [] e = (none, (none, tt), (none, tt))
+order-reads last (next ∷ ls) e =
+    let both : (mayFollow last next ≡ true) × (inOrder next ls ≡ true) = and-eq-true-iff (mayFollow last next) (inOrder next ls) .0 e in
+    let this : InRange next × (keyOf last < keyOf next) × Agree last next = follow-reads last next (both .0) in
+    let ih : Each InRange ls × Asc keyOf (next ∷ ls) × Pairs Agree (next ∷ ls) = order-reads next ls (both .1) in (
+      more (this .0) (ih .0),
+      (more (this .1) (each-map (λ y h. omega (arith, this .1)) (ih .1 .0)), ih .1),
+      (
+        more (this .2) (each-map (λ y all. far (this .0) (this .1) (this .2) y all) (each-both (ih .0) (each-both (ih .1 .0) (ih .2 .0)))),
+        ih .2,
+      ),
+    )
+  where
+    far : InRange next → keyOf last < keyOf next → Agree last next → (y : Link) → InRange y × ((keyOf next < keyOf y) × Agree next y) → Agree last y
+    far r h agree y all same =
+        let up : last .address ≤ next .address = key-address last next r h in
+        let down : next .address ≤ y .address = key-address next y (all .0) (all .1 .0) in
+        agree (omega arith) ∙ all .1 .1 (omega arith)
+
+order-holds : (last : Link) (ls : List Link) → Each InRange ls → Asc keyOf (last ∷ ls) → Pairs Agree (last ∷ ls) → inOrder last ls ≡ true
+unfolding inOrder
+order-holds last [] r asc agree = refl
+order-holds last (next ∷ ls) r asc agree =
+    rw (follow-holds last next (first r) (first (asc .0)) (first (agree .0))) (order-holds next ls (rest r) (asc .1) (agree .1))
+
+pub test-fine : (ls : List Link) → inOrder nothing ls ≡ true → Fine ls
+test-fine ls e =
+    let all : Each InRange ls × Asc keyOf (nothing ∷ ls) × Pairs Agree (nothing ∷ ls) = order-reads nothing ls e in
+    record { ranged = all .0; ascends = all .1 .1; agrees = all .2 .1 }
+
+pub fine-test : (ls : List Link) → Fine ls → inOrder nothing ls ≡ true
+unfolding keyOf
+fine-test ls f =
+    order-holds nothing ls (f .ranged)
+    (each-map (λ y r. omega (arith, r .address-low)) (f .ranged), f .ascends)
+    (each-map (λ y r same. absurd (omega (arith, r .address-low))) (f .ranged), f .agrees)
+
+pub sound-reads : (h : Held) → isSound h ≡ true → (h .count ≤ most) × Fine (h .links)
+unfolding isSound
+sound-reads h e =
+    let both : (leb (h .count) most ≡ true) × (inOrder nothing (h .links) ≡ true) = and-eq-true-iff (leb (h .count) most) (inOrder nothing (h .links)) .0 e in
+    (leb-true (h .count) most (both .0), test-fine (h .links) (both .1))
+
+pub sound-holds : (h : Held) → h .count ≤ most → Fine (h .links) → isSound h ≡ true
+unfolding isSound
+sound-holds h n f = rw (le-leb (h .count) most n) (fine-test (h .links) f)
+
+-- ---- the statement
+
+-- the test answers exactly whether a table is sound, as the paper says it
+pub sound-decided : (h : Held) → (isSound h ≡ true) ↔ Sound h
+sound-decided h = (reads, holds)
+  where
+    reads : isSound h ≡ true → Sound h
+    reads e =
+        let f : Fine (h .links) = sound-reads h e .1 in
+        record {
+          at-most = sound-reads h e .0;
+          in-range = λ i k. range-holds (getD (h .links) i nothing) (each-at (h .links) nothing i k (f .ranged));
+          ascending = λ i j k m.
+              key-before (getD (h .links) i nothing) (getD (h .links) j nothing)
+              (each-at (h .links) nothing i (omega arith) (f .ranged)) (each-at (h .links) nothing j m (f .ranged))
+              (pairs-at (λ x y. keyOf x < keyOf y) (h .links) nothing i j k m (f .ascends));
+          one-class = λ i j k m. pairs-at Agree (h .links) nothing i j k m (f .agrees);
+        }
+
+    holds : Sound h → isSound h ≡ true
+    holds s =
+        let range : (i : ℕ) → i < length (h .links) → InRange (getD (h .links) i nothing) = λ i k. range-reads (getD (h .links) i nothing) (s .in-range i k) in
+        sound-holds h (s .at-most)
+        (record {
+          ranged = each-of (h .links) nothing range;
+          ascends = pairs-of (λ x y. keyOf x < keyOf y) (h .links) nothing
+              (λ i j k m. before-key (getD (h .links) i nothing) (getD (h .links) j nothing) (range i (omega arith)) (range j m) (s .ascending i j k m));
+          agrees = pairs-of Agree (h .links) nothing (s .one-class);
+        })
+
+-- ---- edits keep links fine
+
+pub fine-none : Fine []
+fine-none = record { ranged = none; ascends = tt; agrees = tt }
+
+pub fine-kept : (p : Link → Bool) (ls : List Link) → Fine ls → Fine (kept p ls)
+fine-kept p ls f =
+    record {
+      ranged = each-kept p ls (f .ranged);
+      ascends = pairs-kept (λ x y. keyOf x < keyOf y) p ls (f .ascends);
+      agrees = pairs-kept Agree p ls (f .agrees);
+    }
+
+agree-back : (a b : Link) → Agree a b → Agree b a
+agree-back a b agree same = sym (agree (sym same))
+
+-- a new link in range, that is not there and agrees with those of its address
+pub fine-inserted : (l : Link) (ls : List Link) → Fine ls → InRange l → isIn keyOf l ls ≡ false → Each (Agree l) ls → Fine (inserted keyOf l ls)
+fine-inserted l ls f r new agree =
+    record {
+      ranged = each-perm (inserted-perm keyOf l ls) (more r (f .ranged));
+      ascends = inserted-asc keyOf l ls (f .ascends) new;
+      agrees = pairs-perm Agree agree-back (inserted-perm keyOf l ls) (agree, f .agrees);
+    }
+
+-- ---- the test, case by case
+
+module _ (last next : Link) where
+  pub follow-range : inRange next ≡ false → mayFollow last next ≡ false
+  unfolding mayFollow
+  follow-range e = rw e
+
+  pub follow-key : inRange next ≡ true → keyOf next ≤ keyOf last → mayFollow last next ≡ false
+  unfolding mayFollow
+  follow-key e h = rw (e, le-ltb (keyOf last) (keyOf next) h)
+
+  pub follow-address : inRange next ≡ true → keyOf last < keyOf next → (next .address ≡ last .address → ⊥) → mayFollow last next ≡ true
+  unfolding mayFollow
+  follow-address e h n = rw (e, lt-ltb (keyOf last) (keyOf next) h, ne-eqb (next .address) (last .address) n)
+
+  pub follow-class : inRange next ≡ true → keyOf last < keyOf next → next .address ≡ last .address
+      → mayFollow last next ≡ eqb (classOf (next .kind)) (classOf (last .kind))
+  unfolding mayFollow
+  follow-class e h s = rw (e, lt-ltb (keyOf last) (keyOf next) h, eq-eqb (next .address) (last .address) s)
+
+-- ---- the test, place by place
+
+module _ (last : Link) (ls : List Link) (i : ℕ) where
+  order-step : i < length ls → inOrder last (drop i ls) ≡ mayFollow last (getD ls i nothing) && inOrder (getD ls i nothing) (drop (i + 1) ls)
+  unfolding inOrder
+  order-step h =
+      ap (inOrder last) (drop-cons ls i nothing h)
+      ∙ ap (λ (n : ℕ). mayFollow last (getD ls i nothing) && inOrder (getD ls i nothing) (drop n ls)) (sym (add-one i))
+
+  pub order-more : {all : Bool} → i < length ls → mayFollow last (getD ls i nothing) ≡ true → inOrder last (drop i ls) ≡ all
+      → inOrder (getD ls i nothing) (drop (i + 1) ls) ≡ all
+  order-more {all} h fits e = sym (rw fits at (order-step h)) ∙ e
+
+  pub order-fails : {all : Bool} → i < length ls → mayFollow last (getD ls i nothing) ≡ false → inOrder last (drop i ls) ≡ all → all ≡ false
+  order-fails {all} h wrong e = sym e ∙ (rw wrong at (order-step h))
+
+  pub order-end : {all : Bool} → length ls ≤ i → inOrder last (drop i ls) ≡ all → all ≡ true
+  unfolding inOrder
+  order-end {all} h e = sym e ∙ ap (inOrder last) (drop-of-length-le ls h)
+
+-- too many links
+pub too-many : (h : Held) → most < h .count → isSound h ≡ false
+unfolding isSound
+too-many h n = rw (lt-leb (h .count) most n)
+
+-- few enough: the links decide
+pub not-too-many : (h : Held) → h .count ≤ most → isSound h ≡ inOrder nothing (h .links)
+unfolding isSound
+not-too-many h n = rw (le-leb (h .count) most n)

@@ -1,0 +1,174 @@
+-- The links of an address: in a list whose addresses do not fall they stand together, behind those of all lower addresses.
+-- First over any measure of the elements, by recursion on the list; then for links. Assumes nothing.
+use Prim.Native.Nat.{ℕ, zero, suc, _+_, _*_, _-_, _≤_, _<_}
+use native.Mathlib.Omega.{arith}
+use native.Mathlib.Decide.{decLt, ℕ-discrete}
+use mathlib.Core.Path.{_≡_, refl, sym, ap, ap₂, _∙_, subst}
+use mathlib.Core.Bool.{Bool, true, false, cond, not, _&&_}
+use mathlib.Core.List.{List, [], _∷_}
+use lib.ListN.{length, getD, take, drop}
+use lib.Seq.{take-length}
+use lib.Dec.{eqb, ltb, leb·suc-suc}
+use borrow.Author.Tests.{lt-ltb, le-ltb, ltb-true, ltb-false, eq-eqb, ne-eqb}
+use Rattle.links.specs.declared.link.Link.{Link}
+use Rattle.links.specs.Links.{kept, rank, keyOf, classOf, linksTo, startOf, addressClass}
+use Rattle.links.specs.Sound.{nothing}
+use Rattle.links.specs.Edits.{noLinkTo, otherClass}
+use Rattle.links.proofs.Each.{Each, none, more, first, rest, Pairs, each-map, kept-yes, kept-not, kept-all, kept-none, kept-same}
+use Rattle.links.proofs.Order.{Asc, rank-below, rank-none}
+use Rattle.links.proofs.Keys.{InRange, key-under, key-address, class-some}
+use Rattle.links.proofs.Sound.{Fine, Agree}
+
+module _ {A : Type 0} (f : A → ℕ) where
+  -- no element is above one behind it
+  abbrev pub Up : List A → Type 0
+  Up = Pairs (λ x y. f x ≤ f y)
+
+  -- those at a
+  abbrev pub At : ℕ → A → Bool
+  At a x = eqb (f x) a
+
+  at-none : (a : ℕ) (xs : List A) → Each (λ x. a < f x) xs → kept (At a) xs ≡ []
+  at-none a xs e = kept-none (At a) xs (each-map (λ x h. ne-eqb (f x) a (λ g. omega arith)) e)
+
+  up-none : (a : ℕ) (x : A) (xs : List A) → Up (x ∷ xs) → a < f x → kept (At a) (x ∷ xs) ≡ []
+  up-none a x xs up h = at-none a (x ∷ xs) (more h (each-map (λ y i. omega arith) (up .0)))
+
+  up-first : (a : ℕ) (x : A) (xs : List A) → Up (x ∷ xs) → a ≤ f x → rank f a (x ∷ xs) ≡ 0
+  up-first a x xs up h = rank-none f a (x ∷ xs) (more h (each-map (λ y i. omega arith) (up .0)))
+
+  -- the elements at a stand together, from the place behind all below a
+  pub span-at : (a : ℕ) (xs : List A) → Up xs → take (length (kept (At a) xs)) (drop (rank f a xs) xs) ≡ kept (At a) xs
+  unfolding kept
+  span-at a [] up = refl
+  span-at a (x ∷ xs) up = go (decLt (f x) a) (ℕ-discrete (f x) a) (span-at a xs (up .1))
+    where
+      Spans : List A → Type 0
+      Spans l = take (length (kept (At a) l)) (drop (rank f a l) l) ≡ kept (At a) l
+
+      go : Dec (f x < a) → Dec (f x ≡ a) → Spans xs → Spans (x ∷ xs)
+      go (yes h) d ih = rw (kept-not (At a) x xs (ne-eqb (f x) a (λ e. omega arith)), rank-below f a x xs h) ih
+      go (no h) (yes e) ih =
+          rw (kept-yes (At a) x xs (eq-eqb (f x) a e), up-first a x xs up (omega arith))
+          (ap (λ (l : List A). x ∷ l) (rw (rank-none f a xs (each-map (λ y i. omega arith) (up .0))) at ih))
+      go (no h) (no n) ih = rw (up-none a x xs up (omega arith))
+
+  -- those below the next are those below a, and those at a
+  pub rank-next : (a : ℕ) (xs : List A) → rank f (a + 1) xs ≡ rank f a xs + length (kept (At a) xs)
+  unfolding rank kept
+  rank-next a [] = refl
+  rank-next a (x ∷ xs) = go (decLt (f x) a) (ℕ-discrete (f x) a) (rank-next a xs)
+    where
+      go : Dec (f x < a) → Dec (f x ≡ a) → length (kept (λ y. ltb (f y) (a + 1)) xs) ≡ length (kept (λ y. ltb (f y) a) xs) + length (kept (At a) xs)
+          → length (kept (λ y. ltb (f y) (a + 1)) (x ∷ xs)) ≡ length (kept (λ y. ltb (f y) a) (x ∷ xs)) + length (kept (At a) (x ∷ xs))
+      go (yes h) d ih = rw (lt-ltb (f x) (a + 1) (omega arith), lt-ltb (f x) a h, ne-eqb (f x) a (λ e. omega arith)) (omega arith)
+      go (no h) (yes e) ih = rw (lt-ltb (f x) (a + 1) (omega arith), le-ltb (f x) a (omega arith), eq-eqb (f x) a e) (omega arith)
+      go (no h) (no n) ih = rw (le-ltb (f x) (a + 1) (omega arith), le-ltb (f x) a (omega arith), ne-eqb (f x) a n) ih
+
+-- ---- links
+
+-- the addresses of fine links do not fall
+pub addresses-up : (ls : List Link) → Each InRange ls → Asc keyOf ls → Up (λ l. l .address) ls
+addresses-up [] r asc = tt
+addresses-up (l ∷ ls) r asc = (up l ls (rest r) (asc .0), addresses-up ls (rest r) (asc .1))
+  where
+    up : (l : Link) (ls : List Link) → Each InRange ls → Each (λ y. keyOf l < keyOf y) ls → Each (λ y. l .address ≤ y .address) ls
+    up l [] r h = none
+    up l (y ∷ ys) r h = more (key-address l y (first r) (first h)) (up l ys (rest r) (rest h))
+
+-- the search by the first key of an address finds where the address starts
+pub start-searched : (address : ℕ) (ls : List Link) → Each InRange ls → rank keyOf (address * 65536) ls ≡ startOf address ls
+unfolding startOf rank
+start-searched address ls r =
+    ap length (kept-same (λ l. ltb (keyOf l) (address * 65536)) (λ l. ltb (l .address) address) ls (each-map (λ l s. key-under l address s) r))
+
+-- the search by the first key of the next address finds where the address ends
+pub end-searched : (address : ℕ) (ls : List Link) → Each InRange ls
+    → rank keyOf ((address + 1) * 65536) ls ≡ startOf address ls + length (linksTo address ls)
+unfolding startOf linksTo
+end-searched address ls r = start-searched (address + 1) ls r ∙ rank-next (λ l. l .address) address ls
+
+-- `find` answers exactly the links of the address, in table order
+pub links-found : (address : ℕ) (ls : List Link) → Fine ls → take (length (linksTo address ls)) (drop (startOf address ls) ls) ≡ linksTo address ls
+unfolding linksTo startOf
+links-found address ls fine = span-at (λ l. l .address) address ls (addresses-up ls (fine .ranged) (fine .ascends))
+
+-- an address that no link can have has none
+pub no-address : (address : ℕ) (ls : List Link) → Each InRange ls → 65535 < address → linksTo address ls ≡ []
+unfolding linksTo
+no-address address ls r h = kept-none (At (λ l. l .address) address) ls (each-map (λ l s. ne-eqb (l .address) address (λ e. omega (arith, s .address-high))) r)
+
+-- the class of an address is that of the link where it starts
+pub class-at-start : (address : ℕ) (ls : List Link) → Up (λ l. l .address) ls
+    → addressClass address ls
+    ≡ cond (ltb (startOf address ls) (length ls) && eqb (getD ls (startOf address ls) nothing .address) address)
+    (classOf (getD ls (startOf address ls) nothing .kind)) 0
+unfolding addressClass startOf
+class-at-start address [] up = rw (rank-none (λ (l : Link). l .address) address [] none)
+class-at-start address (l ∷ ls) up = go (decLt (l .address) address) (ℕ-discrete (l .address) address) (class-at-start address ls (up .1))
+  where
+    by : Link → ℕ
+    by x = x .address
+
+    Starts : List Link → Type 0
+    Starts xs =
+        addressClass address xs
+        ≡ cond (ltb (rank by address xs) (length xs) && eqb (getD xs (rank by address xs) nothing .address) address)
+        (classOf (getD xs (rank by address xs) nothing .kind)) 0
+
+    absent : (xs : List Link) → Each (λ x. address < x .address) xs → addressClass address xs ≡ 0
+    absent [] e = refl
+    absent (x ∷ xs) e = rw (ne-eqb (x .address) address (λ g. omega (arith, first e))) (absent xs (rest e))
+
+    go : Dec (l .address < address) → Dec (l .address ≡ address) → Starts ls → Starts (l ∷ ls)
+    go (yes h) d ih = rw (ne-eqb (l .address) address (λ e. omega arith), rank-below by address l ls h, leb·suc-suc (suc (rank by address ls)) (length ls)) ih
+    go (no h) (yes e) ih = rw (up-first by address l ls up (omega arith), eq-eqb (l .address) address e, lt-ltb 0 (suc (length ls)) (omega arith))
+    go (no h) (no n) ih =
+        rw (up-first by address l ls up (omega arith), ne-eqb (l .address) address n, lt-ltb 0 (suc (length ls)) (omega arith))
+        (absent ls (each-map (λ y i. omega arith) (up .0)))
+
+-- every link of an address has the class of the address
+pub class-shared : (address : ℕ) (ls : List Link) → Pairs Agree ls → Each (λ l. l .address ≡ address → classOf (l .kind) ≡ addressClass address ls) ls
+unfolding addressClass
+class-shared address [] agree = none
+class-shared address (l ∷ ls) agree = go (ℕ-discrete (l .address) address) (class-shared address ls (agree .1))
+  where
+    Shared : ℕ → List Link → Type 0
+    Shared class = Each (λ x. x .address ≡ address → classOf (x .kind) ≡ class)
+
+    go : Dec (l .address ≡ address) → Shared (addressClass address ls) ls → Shared (addressClass address (l ∷ ls)) (l ∷ ls)
+    go (yes e) ih = rw (eq-eqb (l .address) address e) (more (λ g. refl) (each-map (λ x a g. sym (a (e ∙ sym g))) (agree .0)))
+    go (no n) ih = rw (ne-eqb (l .address) address n) (more (λ g. absurd (n g)) ih)
+
+-- an address has no class exactly if it has no link
+pub no-class : (address : ℕ) (ls : List Link) → eqb (addressClass address ls) 0 ≡ noLinkTo address ls
+unfolding noLinkTo linksTo addressClass kept
+no-class address [] = refl
+no-class address (l ∷ ls) = go (eqb (l .address) address) (no-class address ls)
+  where
+    go : (b : Bool) → eqb (addressClass address ls) 0 ≡ eqb (length (kept (λ x. eqb (x .address) address) ls)) 0
+        → eqb (cond b (classOf (l .kind)) (addressClass address ls)) 0
+        ≡ eqb (length (cond b (l ∷ kept (λ x. eqb (x .address) address) ls) (kept (λ x. eqb (x .address) address) ls))) 0
+    go true ih =
+        ne-eqb (classOf (l .kind)) 0 (λ e. omega (arith, class-some (l .kind)))
+        ∙ sym (ne-eqb (suc (length (kept (λ x. eqb (x .address) address) ls))) 0 (λ e. omega arith))
+    go false ih = ih
+
+-- ---- the class, from the place where the search ended
+
+module _ (address : ℕ) (ls : List Link) (fine : Fine ls) {s : ℕ} (searched : s ≡ rank keyOf (address * 65536) ls) where
+  starts-at : startOf address ls ≡ s
+  starts-at = sym (searched ∙ start-searched address ls (fine .ranged))
+
+  class-there : addressClass address ls ≡ cond (ltb s (length ls) && eqb (getD ls s nothing .address) address) (classOf (getD ls s nothing .kind)) 0
+  class-there =
+      rw starts-at at (class-at-start address ls (addresses-up ls (fine .ranged) (fine .ascends)))
+
+  pub class-past : length ls ≤ s → 0 ≡ addressClass address ls
+  class-past h = sym (rw (le-ltb s (length ls) h) at class-there)
+
+  pub class-other : s < length ls → (getD ls s nothing .address ≡ address → ⊥) → 0 ≡ addressClass address ls
+  class-other h n = sym (rw (lt-ltb s (length ls) h, ne-eqb (getD ls s nothing .address) address n) at class-there)
+
+  pub class-same : s < length ls → getD ls s nothing .address ≡ address → classOf (getD ls s nothing .kind) ≡ addressClass address ls
+  class-same h e = sym (rw (lt-ltb s (length ls) h, eq-eqb (getD ls s nothing .address) address e) at class-there)

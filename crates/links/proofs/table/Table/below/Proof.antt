@@ -1,0 +1,82 @@
+-- Every link passed is below the key, so the links passed and those below the key in what is left are all that are below it.
+-- The first that is not below ends the search, since the links ascend.
+use Prim.Native.Nat.{ℕ, _+_, _-_, _≤_, _<_}
+use native.Mathlib.Nat.{zero-add}
+use native.Mathlib.Omega.{arith}
+use mathlib.Core.Path.{_≡_, sym, ap, _∙_, subst}
+use lib.ListN.{length, getD, take, drop}
+use lib.Seq.{getD-take}
+use borrow.Author.Needs.{needs}
+use Rattle.links.specs.Links.{keyOf, rank, heldOf}
+use Rattle.links.specs.Sound.{nothing, isSound}
+use Rattle.links.proofs.Order.{rank-more, rank-stop, rank-end}
+use Rattle.links.proofs.Sound.{sound-reads}
+use Rattle.links.proofs.Stores.{long, held-length}
+use Rattle.links.proofs.table.Table.below.Statement.{statement}
+use Rattle.links.proofs.table.Table.below.Tie as tie
+
+abbrev Inv-loop : tie.InvT-loop
+Inv-loop key self count i₀ i =
+    (i ≤ count) × (i + rank keyOf key (drop i (heldOf self .links)) ≡ rank keyOf key (heldOf self .links))
+
+abbrev μ-loop : tie.MeasureT-loop
+μ-loop key self count i₀ i = count - i
+
+loop-holds : tie.Need-loop-holds Inv-loop μ-loop
+loop-holds c = (omega arith, omega arith)
+
+-- a sound table has at most 512 links, and as many as its count says
+few : (c : tie.Start Inv-loop μ-loop) → c .args .t1 .count ≤ 512
+few c = sound-reads (heldOf (c .args .t1)) (c .pre) .0
+
+many : (c : tie.Start Inv-loop μ-loop) → length (heldOf (c .args .t1) .links) ≡ c .args .t1 .count
+many c =
+    let whole : length (c .args .t1 .links) ≡ 512 = search (long, needs) in
+    held-length (c .args .t1 .links) 512 whole (c .args .t1 .count) (few c)
+
+mul-here : tie.Need-mul-here Inv-loop μ-loop
+mul-here c = omega (arith, few (c .before .before))
+
+element-copy-out-here : tie.Need-element-copy-out-here Inv-loop μ-loop
+element-copy-out-here c = omega (arith, few (c .before .before))
+
+-- the key that was computed is that of the link held at this place
+here : (c : tie.After-key Inv-loop μ-loop) → c .key .result ≡ keyOf (getD (heldOf (c .before .before .before .before .args .t1) .links) (c .before .before .before .loop .i) nothing)
+here c =
+    let t = c .before .before .before .before .args .t1 in
+    c .key .ensures ∙ ap keyOf (sym (getD-take (t .count) (t .links) (c .before .before .before .loop .i) nothing (c .before .before .loop-test .taken)))
+
+returns : tie.Need-returns Inv-loop μ-loop
+returns c =
+    let start = c .before .before .before .before .before in
+    rank-stop keyOf (start .args .key) (heldOf (start .args .t1) .links) nothing (c .before .before .before .before .loop .i) _
+    (sound-reads (heldOf (start .args .t1)) (start .pre) .1 .ascends)
+    (omega (arith, many start))
+    (subst (λ (k : ℕ). start .args .key ≤ k) (here (c .before)) (c .if1 .taken))
+    (c .before .before .before .before .loop .inv .1)
+
+add-i : tie.Need-add-i Inv-loop μ-loop
+add-i c = omega (arith, few (c .before .before .before .before .before))
+
+loop-less : tie.Need-loop-less Inv-loop μ-loop
+loop-less c = omega arith
+
+loop-again : tie.Need-loop-again Inv-loop μ-loop
+loop-again c =
+    let start = c .before .before .before .before .before in (
+      omega arith,
+      rank-more keyOf (start .args .key) (heldOf (start .args .t1) .links) nothing (c .before .before .before .before .loop .i) _
+          (omega (arith, many start))
+          (subst (λ (k : ℕ). k < start .args .key) (here (c .before)) (c .if1 .left))
+          (c .before .before .before .before .loop .inv .1),
+    )
+
+returns-2 : tie.Need-returns-2 Inv-loop μ-loop
+returns-2 c =
+    let start = c .before .before in
+    rank-end keyOf (start .args .key) (heldOf (start .args .t1) .links) (c .before .loop .i) _ (omega (arith, many start)) (c .before .loop .inv .1)
+
+pub below-spec : {M : Type 1} → statement M
+below-spec =
+    tie.close
+    (tie.spec Inv-loop μ-loop loop-holds mul-here element-copy-out-here (λ c κs. search needs) returns add-i loop-less loop-again returns-2)

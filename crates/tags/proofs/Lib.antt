@@ -1,0 +1,4 @@
+pub mod Digits
+pub mod Members
+pub mod Sets
+pub mod Outcomes
