@@ -6,3 +6,8 @@ pub mod Sound
 pub mod Spans
 pub mod Stores
 pub mod Calls
+pub mod Sweep
+pub mod Editing
+pub mod Afresh
+pub mod Untouched
+pub mod Outcomes
