@@ -1,6 +1,6 @@
 -- The tests of the definition, one after the other; the first says that at most 512 links are there to be looked at.
 -- The pass over what is left of the tags, with the terminals met so far, decides as the whole test does.
-use Prim.Native.Nat.{_+_, _-_, _≤_, _<_}
+use Prim.Native.Nat.{_-_, _≤_, _<_}
 use native.Mathlib.Omega.{arith}
 use mathlib.Core.Path.{_≡_, sym, ap, _∙_}
 use mathlib.Core.Logic.{⊎-elim}
