@@ -1,2 +1,4 @@
 pub mod Choices
 pub mod Deciding
+pub mod Fills
+pub mod Every

@@ -1,1 +1,3 @@
 pub mod Decides
+pub mod Fills
+pub mod Every

@@ -1,0 +1,5 @@
+pub mod Panel
+pub mod Fields
+pub mod Strip
+pub mod Sound
+pub mod Calls
