@@ -1,0 +1,5 @@
+pub mod Seats
+pub mod Reports
+pub mod Telegrams
+pub mod TimeSteps
+pub mod Strip
