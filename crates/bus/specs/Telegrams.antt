@@ -1,10 +1,10 @@
 -- Document 01, "Links and telegrams": what a telegram answers, and what it does to the panel.
 -- Assumes nothing.
 use Prim.Native.Nat.{ℕ}
-use mathlib.Core.Bool.{Bool, cond, not, _&&_}
+use mathlib.Core.Bool.{Bool, cond, _||_}
 use mathlib.Core.List.{List, [], _∷_}
 use lib.ListN.{length}
-use lib.Dec.{eqb, ltb, leb}
+use lib.Dec.{eqb, ltb}
 use Rattle.answers.specs.Answers.{Check, refusal, Outcome, answered}
 use Rattle.tags.specs.Tags.{places}
 use Rattle.rules.specs.Rules.{heeded}
@@ -17,9 +17,9 @@ use Rattle.panel.specs.Calls.{lentChecks, Left}
 use Rattle.bus.specs.Seats.{onBlind}
 use Rattle.bus.specs.Reports.{reports}
 
--- "A telegram is (address, value 0 to 255)", and an address is 1 to 65535.
-unfoldable pub isTelegram : ℕ → ℕ → Bool
-isTelegram address value = leb 1 address && (leb address 65535 && leb value 255)
+-- "A telegram is (address, value 0 to 255)", and an address is 1 to 65535: whether one of the two is outside its range.
+unfoldable pub isOutside : ℕ → ℕ → Bool
+isOutside address value = ltb address 1 || (ltb 65535 address || ltb 255 value)
 
 -- "Checks in order: .. telegram 5, 6": no link for this address; value not of the class of its links.
 unfoldable pub linkChecks : ℕ → ℕ → List Link → List Check
@@ -27,7 +27,7 @@ linkChecks address value links = (noLinkTo address links, 5) ∷ (ltb (addressCl
 
 unfoldable pub telegramChecks : ℕ → ℕ → Model → List ℕ → List Check
 telegramChecks address value m cells =
-    lentChecks places cells m (not (isTelegram address value)) (linkChecks address value (m .table .links))
+    lentChecks places cells m (isOutside address value) (linkChecks address value (m .table .links))
 
 -- A link names a tag and a kind: the blind of the tag heeds what the value says on this kind, and every other is as it was.
 unfoldable pub served : ℕ → Link → ℕ → Seat → Seat

@@ -9,7 +9,7 @@ ghost use mathlib.Core.Bool.{true, cond};
 ghost use lib.ListN.{length};
 ghost use Rattle.tags.specs.Tags.{places, tagsOf};
 ghost use Rattle.reading.specs.Reports.{report};
-ghost use Rattle.panel.specs.Panel.{modelOf};
+ghost use Rattle.panel.specs.Panel.{modelOf, presentIn};
 ghost use Rattle.panel.specs.Sound.{Sound};
 ghost use Rattle.bus.specs.Reports.{noReport, reports};
 
@@ -21,7 +21,7 @@ const NO_REPORT: u16 = 512;
 // Every cell: the blind before the whole call against the blind after it.
 pub(crate) fn fill(before: Panel, after: Panel, cells: &mut [u16])
     requires { ⌜ length (now cells) ≡ places ⌝ }
-    requires { ⌜ after .present ≡ before .present ⌝ }
+    requires { ⌜ presentIn (modelOf after) ≡ presentIn (modelOf before) ⌝ }
     requires { ⌜ Sound (modelOf after) ⌝ }
     ensures { λ r. ⌜ now (cells .exit) ≡ reports (modelOf before) (modelOf after) ⌝ }
 {

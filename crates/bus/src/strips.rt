@@ -1,23 +1,18 @@
 // Document 01, "Reports and strip": a strip reading fills 128 lent cells: 0 off, 1 up, 2 down, and 0 where no blind
 // stands. The panel is read and handed back as it was.
+use crate::judging::judge_lent;
 use crate::reports::CELLS;
 use answers::DONE;
-use answers::NOT_SOUND;
-use answers::WRONG_CELLS;
 use panel::Panel;
 use panel::calls::Answered;
 use reading::reports::motor;
 ghost use mathlib.Core.Path.{_≡_};
-ghost use mathlib.Core.Bool.{not};
-ghost use mathlib.Core.List.{[], _∷_};
 ghost use lib.ListN.{length};
-ghost use lib.Dec.{eqb};
-ghost use Rattle.answers.specs.Answers.{refusal};
 ghost use Rattle.panel.specs.Panel.{modelOf};
 ghost use Rattle.panel.specs.Sound.{Sound};
 ghost use Rattle.panel.specs.Strip.{terminals};
-ghost use Rattle.panel.specs.Calls.{unsound, outcomeWith};
-ghost use Rattle.bus.specs.Strip.{commands, stripRead};
+ghost use Rattle.panel.specs.Calls.{outcomeWith};
+ghost use Rattle.bus.specs.Strip.{allOff, commands, stripRead};
 
 const TERMINALS: usize = 128;
 
@@ -26,7 +21,7 @@ const OFF: u8 = 0;
 pub fn strip(panel: Panel, cells: &mut [u8]) -> Answered
     ensures { λ r. ⌜ outcomeWith r (now (cells .exit)) ≡ stripRead (modelOf panel) (now (cells .entry)) ⌝ }
 {
-    let refused = judge(panel, cells.len());
+    let refused = judge_lent(panel, cells.len(), TERMINALS, false);
     if refused == DONE {
         clear(cells);
         drive(panel, cells);
@@ -38,21 +33,10 @@ pub fn strip(panel: Panel, cells: &mut [u8]) -> Answered
     }
 }
 
-fn judge(panel: Panel, lent: usize) -> u8
-    ensures { λ r. ⌜ r ≡ refusal ((not (eqb lent terminals), 11) ∷ unsound (modelOf panel) ∷ []) ⌝ }
-{
-    if lent != TERMINALS {
-        return WRONG_CELLS;
-    }
-    if !panel.is_sound() {
-        return NOT_SOUND;
-    }
-    DONE
-}
-
 // No motor runs.
 fn clear(cells: &mut [u8])
     requires { ⌜ length (now cells) ≡ terminals ⌝ }
+    ensures { λ r. ⌜ now (cells .exit) ≡ allOff ⌝ }
 {
     for terminal in 0..TERMINALS {
         cells[terminal] = OFF;
@@ -61,8 +45,9 @@ fn clear(cells: &mut [u8])
 
 // Each blind gives its motor command to the cell of its terminal.
 fn drive(panel: Panel, cells: &mut [u8])
-    requires { ⌜ length (now cells) ≡ terminals ⌝ }
+    requires { ⌜ now cells ≡ allOff ⌝ }
     requires { ⌜ Sound (modelOf panel) ⌝ }
+    ensures { λ r. ⌜ now (cells .exit) ≡ commands (modelOf panel) ⌝ }
 {
     for tag in 0..CELLS {
         if panel.present.has(tag as u64) {

@@ -1,14 +1,12 @@
 // Document 01, "Links and telegrams": a telegram goes to every link of its address in table order, and answers how
 // many there were. It is judged as a whole before the first blind hears of it.
+use crate::judging::judge_lent;
 use crate::reports::CELLS;
 use crate::reports::fill;
 use crate::spans::Span;
 use answers::DONE;
 use answers::NOT_OF_THE_CLASS;
-use answers::NOT_SOUND;
 use answers::NO_LINK;
-use answers::OUT_OF_RANGE;
-use answers::WRONG_CELLS;
 use blind::Blind;
 use links::link::Link;
 use links::link::class_of_kind;
@@ -17,21 +15,22 @@ use panel::Panel;
 use panel::calls::Answered;
 use rules::Input;
 use rules::telegrams::heed;
-ghost use Prim.Native.Nat.{_≤_};
+ghost use Prim.Native.Nat.{_≤_, _-_};
 ghost use mathlib.Core.Path.{_≡_};
 ghost use mathlib.Core.Bool.{true, not};
 ghost use mathlib.Core.List.{_∷_};
-ghost use lib.ListN.{length};
+ghost use lib.ListN.{take, drop};
 ghost use lib.Dec.{eqb};
 ghost use Rattle.answers.specs.Answers.{refusal};
 ghost use Rattle.tags.specs.Tags.{places};
-ghost use Rattle.links.specs.Links.{heldOf};
+ghost use Rattle.links.specs.Links.{classOf, heldOf};
 ghost use Rattle.links.specs.Sound as ofLinks;
 ghost use Rattle.rules.specs.Rules.{heeded};
 ghost use Rattle.rules.specs.Telegrams.{inputOf};
 ghost use Rattle.panel.specs.Panel.{modelOf};
+ghost use Rattle.panel.specs.Sound.{Sound};
 ghost use Rattle.panel.specs.Calls.{checks, outcomeWith};
-ghost use Rattle.bus.specs.Telegrams.{isTelegram, linkChecks, afterTelegram, telegrammed};
+ghost use Rattle.bus.specs.Telegrams.{isOutside, linkChecks, delivered, telegrammed};
 
 const FIRST_ADDRESS: u64 = 1;
 
@@ -61,30 +60,25 @@ pub fn telegram(panel: Panel, address: u64, value: u64, cells: &mut [u16]) -> An
 }
 
 fn judge(panel: Panel, address: u64, value: u64, lent: usize) -> u8
-    ensures { λ r. ⌜ r ≡ refusal ((not (eqb lent places), 11) ∷ checks (modelOf panel) (not (isTelegram address value)) (linkChecks address value (modelOf panel .table .links))) ⌝ }
+    ensures { λ r. ⌜ r ≡ refusal ((not (eqb lent places), 11) ∷ checks (modelOf panel) (isOutside address value) (linkChecks address value (modelOf panel .table .links))) ⌝ }
 {
-    if lent != CELLS {
-        return WRONG_CELLS;
-    }
-    if !panel.is_sound() {
-        return NOT_SOUND;
-    }
-    if !is_telegram(address, value) {
-        return OUT_OF_RANGE;
+    let shared = judge_lent(panel, lent, CELLS, is_outside(address, value));
+    if shared != DONE {
+        return shared;
     }
     judge_links(panel.table, address, value)
 }
 
-fn is_telegram(address: u64, value: u64) -> bool
-    ensures { λ r. ⌜ r ≡ isTelegram address value ⌝ }
+fn is_outside(address: u64, value: u64) -> bool
+    ensures { λ r. ⌜ r ≡ isOutside address value ⌝ }
 {
     if address < FIRST_ADDRESS {
-        return false;
+        return true;
     }
     if LAST_ADDRESS < address {
-        return false;
+        return true;
     }
-    value <= LAST_VALUE
+    LAST_VALUE < value
 }
 
 // All links of an address have one class, so the first tells it.
@@ -112,7 +106,11 @@ fn class(link: Link) -> u64
 }
 
 // Each link speaks to the blind of its tag, as the link before left it.
-fn deliver(panel: Panel, span: Span, value: u8) -> Panel {
+fn deliver(panel: Panel, span: Span, value: u8) -> Panel
+    requires { ⌜ Sound (modelOf panel) ⌝ }
+    requires { ⌜ span .end ≤ panel .table .count ⌝ }
+    ensures { λ r. ⌜ modelOf r ≡ delivered value (take (span .end - span .start) (drop (span .start) (modelOf panel .table .links))) (modelOf panel) ⌝ }
+{
     let table = panel.table;
     let mut next = panel;
     let mut i = span.start;

@@ -1,31 +1,26 @@
 // Document 01, "One millisecond": a time step of dt, 0 to 60,000, is dt milliseconds for every blind.
+use crate::judging::judge_lent;
 use crate::reports::CELLS;
 use crate::reports::fill;
 use answers::DONE;
-use answers::NOT_SOUND;
-use answers::OUT_OF_RANGE;
-use answers::WRONG_CELLS;
 use blind::Blind;
 use panel::Panel;
 use panel::calls::Answered;
 use tags::Tags;
 ghost use mathlib.Core.Path.{_≡_};
-ghost use mathlib.Core.Bool.{not, cond};
-ghost use mathlib.Core.List.{[], _∷_};
-ghost use lib.Dec.{eqb, ltb};
-ghost use Rattle.answers.specs.Answers.{refusal};
-ghost use Rattle.tags.specs.Tags.{places, tagsOf};
+ghost use mathlib.Core.Bool.{cond};
+ghost use Rattle.tags.specs.Tags.{tagsOf};
 ghost use Rattle.blind.specs.Millisecond.{milliseconds};
 ghost use Rattle.panel.specs.Panel.{modelOf};
-ghost use Rattle.panel.specs.Calls.{checks, outcomeWith};
-ghost use Rattle.bus.specs.TimeSteps.{longest, afterStep, timeStepped};
+ghost use Rattle.panel.specs.Calls.{outcomeWith};
+ghost use Rattle.bus.specs.TimeSteps.{afterStep, timeStepped};
 
 const LONGEST: u64 = 60000;
 
 pub fn time_step(panel: Panel, dt: u64, cells: &mut [u16]) -> Answered
     ensures { λ r. ⌜ outcomeWith r (now (cells .exit)) ≡ timeStepped dt (modelOf panel) (now (cells .entry)) ⌝ }
 {
-    let refused = judge(panel, dt, cells.len());
+    let refused = judge_lent(panel, cells.len(), CELLS, LONGEST < dt);
     if refused != DONE {
         return Answered {
             answer: refused,
@@ -42,24 +37,9 @@ pub fn time_step(panel: Panel, dt: u64, cells: &mut [u16]) -> Answered
     }
 }
 
-fn judge(panel: Panel, dt: u64, lent: usize) -> u8
-    ensures { λ r. ⌜ r ≡ refusal ((not (eqb lent places), 11) ∷ checks (modelOf panel) (ltb longest dt) []) ⌝ }
-{
-    if lent != CELLS {
-        return WRONG_CELLS;
-    }
-    if !panel.is_sound() {
-        return NOT_SOUND;
-    }
-    if LONGEST < dt {
-        return OUT_OF_RANGE;
-    }
-    DONE
-}
-
 // Every blind by itself: no blind's time hangs on another's.
 fn pass(panel: Panel, dt: u64) -> Panel
-    ensures { λ r. ⌜ (modelOf r ≡ afterStep dt (modelOf panel)) × (r .present ≡ panel .present) ⌝ }
+    ensures { λ r. ⌜ modelOf r ≡ afterStep dt (modelOf panel) ⌝ }
 {
     let present = panel.present;
     let mut next = panel;
