@@ -22,12 +22,17 @@ pub fn strip(panel: Panel, cells: &mut [u8]) -> Answered
     ensures { λ r. ⌜ outcomeWith r (now (cells .exit)) ≡ stripRead (modelOf panel) (now (cells .entry)) ⌝ }
 {
     let refused = judge_lent(panel, cells.len(), TERMINALS, false);
-    if refused == DONE {
-        clear(cells);
-        drive(panel, cells);
+    if refused != DONE {
+        return Answered {
+            answer: refused,
+            count: 0,
+            panel,
+        };
     }
+    clear(cells);
+    drive(panel, cells);
     Answered {
-        answer: refused,
+        answer: DONE,
         count: 0,
         panel,
     }

@@ -1,0 +1,68 @@
+-- What is left of the links, on the panel so far, leads to what all of them lead to.
+use Prim.Native.Nat.{_-_, _<_}
+use native.Mathlib.Omega.{arith}
+use lib.ListN.{getD}
+use borrow.Author.Needs.{needs}
+use Rattle.laws.proofs.Fills.{long}
+use Rattle.tags.specs.Tags.{places}
+use Rattle.links.specs.Sound.{nothing}
+use Rattle.bus.proofs.Delivery.{Delivering, deliver-start, deliver-turn, deliver-end, tag-low}
+use Rattle.bus.proofs.telegrams.deliver.Statement.{statement}
+use Rattle.bus.proofs.telegrams.deliver.Tie as tie
+
+abbrev Inv-loop : tie.InvT-loop
+Inv-loop value table next₀ i₀ end next i = Delivering value next₀ i₀ end next i
+
+abbrev μ-loop : tie.MeasureT-loop
+μ-loop value table next₀ i₀ end next i = end - i
+
+loop-holds : tie.Need-loop-holds Inv-loop μ-loop
+loop-holds c =
+    let start = c .before in
+    deliver-start (start .args .value) (start .args .panel) (start .args .span .start) (start .args .span .end) (search (long, needs))
+
+loop-again : tie.Need-loop-again Inv-loop μ-loop
+loop-again c =
+    let at = c .before .before .before .before .before in
+    let start = at .before .before in
+    deliver-turn (start .args .value) (start .args .panel) (start .args .span .start) (start .args .span .end) (start .pre .0) (search (long, needs))
+    (start .pre .1) (at .loop .next) (at .loop .i) (c .hear .result) (c .before .before .before .before .loop-test .taken) (c .hear .ensures) (at .loop .inv)
+
+returns : tie.Need-returns Inv-loop μ-loop
+returns c =
+    let start = c .before .before .before in
+    deliver-end (start .args .value) (start .args .panel) (start .args .span .start) (start .args .span .end) (c .before .loop .next) (c .before .loop .i)
+    (c .loop-test .left) (c .before .loop .inv)
+
+-- the table is not longer than it may be
+short : (c : tie.In-loop Inv-loop μ-loop) → c .before .loop .i < 512
+short c =
+    let start = c .before .before .before in
+    omega (arith, c .loop-test .taken, start .pre .1, start .pre .0 .links .at-most)
+
+-- the tag of the link is one of the 64
+low : (c : tie.In-loop Inv-loop μ-loop) → getD (c .before .before .before .args .panel .table .links) (c .before .loop .i) nothing .tag < places
+low c =
+    let start = c .before .before .before in
+    tag-low (start .args .value) (start .args .panel) (start .args .span .start) (start .args .span .end) (start .pre .0) (search (long, needs))
+    (start .pre .1) (c .before .loop .i) (c .loop-test .taken)
+
+pub deliver-spec : {M : Type 1} → statement M
+deliver-spec =
+    tie.close
+    (tie.spec
+    Inv-loop
+    μ-loop
+    loop-holds
+    (λ c. omega (arith, short c))
+    (λ c. omega (arith, short c))
+    (λ c. omega (arith, low (c .before .before)))
+    (λ c. omega (arith, low (c .before .before)))
+    (λ c. omega (arith, low (c .before .before), c .before .before .before .loop .inv .room))
+    (λ c κs. search needs)
+    (λ c. omega (arith, low (c .before .before .before .before)))
+    (λ c. omega (arith, low (c .before .before .before .before), c .before .before .before .before .before .loop .inv .room))
+    (λ c. omega (arith, short (c .before .before .before .before)))
+    (λ c. omega arith)
+    loop-again
+    returns)
