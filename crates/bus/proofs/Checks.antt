@@ -19,6 +19,7 @@ use Rattle.panel.specs.Sound.{allNamed, soundSeats, isSound}
 use Rattle.panel.specs.Calls.{outside, checks, Left}
 use Rattle.panel.proofs.Checks.{own-checks}
 use Rattle.bus.specs.Telegrams.{isOutside, linkChecks}
+use Rattle.bus.specs.Answers.{Telegram}
 
 -- a choice that a test has made
 pub chosen : {A : Type 0} {t r : Bool} {x : A} (a b : A) → r ≡ t → r ≡ true → x ≡ a → x ≡ cond t a b
@@ -83,6 +84,11 @@ module _ (lent n : ℕ) (m : Model) (out : Bool) where
       go false false true h = refl
       go false false false h = absurd (h refl)
 
+-- the panel is sound: 12 is never answered
+pub sound-passed : (m : Model) (out : Bool) (own : List Check) → isSound m ≡ true → refusal (checks m out own) ≡ refusal (outside out ∷ own)
+unfolding checks
+sound-passed m out own e = passed-by (not (isSound m)) 12 (outside out ∷ own) (ap not e)
+
 -- ---- telegrams
 
 -- the table of a sound panel is sound
@@ -95,12 +101,7 @@ neither true b e = absurd (mathlib.Core.Bool.true≢false e)
 neither false b e = (refl, e)
 
 -- an address and a value in range
-pub record Inside (address value : ℕ) : Type 0 where
-  pub address-low : 1 ≤ address
-  pub address-high : address ≤ 65535
-  pub byte : value ≤ 255
-
-pub inside : (address value : ℕ) → isOutside address value ≡ false → Inside address value
+pub inside : (address value : ℕ) → isOutside address value ≡ false → Telegram address value
 unfolding isOutside
 inside address value e =
     let low = neither (ltb address 1) (ltb 65535 address || ltb 255 value) e in
@@ -115,7 +116,7 @@ inside address value e =
 pub record Accepted (lent : ℕ) (address value : ℕ) (m : Model) : Type 0 where
   pub lent-all : lent ≡ places
   pub sound : isSound m ≡ true
-  pub range : Inside address value
+  pub range : Telegram address value
   pub linked : noLinkTo address (m .table .links) ≡ false
   pub of-class : value ≤ addressClass address (m .table .links)
 

@@ -4,7 +4,7 @@ use Prim.Native.Nat.{ℕ, zero, suc, _+_, _-_, _≤_, _<_}
 use native.Mathlib.Numerals.{add-one}
 use native.Mathlib.Omega.{arith}
 use mathlib.Core.Path.{_≡_, refl, sym, ap, ap₂, _∙_}
-use mathlib.Core.Bool.{Bool, true, false, cond}
+use mathlib.Core.Bool.{Bool, true, false, cond, _&&_}
 use mathlib.Core.List.{List, [], _∷_}
 use mathlib.Core.Logic.{_↔_}
 use mathlib.Core.Option.{Option, none, some, Option·map}
@@ -176,14 +176,15 @@ module _ (t : Table) (address value : ℕ) (sound : ofLinks.isSound (heldOf t) �
       first-class =
           ap (λ (l : Link). classOf (l .kind)) (sym (getD-take (t .count) (t .links) start nothing (omega (arith, ends-low))))
           ∙ ap (λ (k : ℕ). classOf (getD (heldOf t .links) k nothing .kind)) from
-          ∙ go _ (class-at-start address (heldOf t .links) (addresses-up (heldOf t .links) (fine .ranged) (fine .ascends)))
+          ∙ go (ltb (startOf address (heldOf t .links)) (length (heldOf t .links)) && eqb (getD (heldOf t .links) (startOf address (heldOf t .links)) nothing .address) address) _
+          (class-at-start address (heldOf t .links) (addresses-up (heldOf t .links) (fine .ranged) (fine .ascends)))
         where
           fine : Fine (heldOf t .links)
           fine = sound-reads (heldOf t) sound .1
 
-          go : (b : Bool) {x : ℕ} → addressClass address (heldOf t .links) ≡ cond b x 0 → x ≡ addressClass address (heldOf t .links)
-          go true e = sym e
-          go false e = absurd (eqb-false (addressClass address (heldOf t .links)) 0 (no-class address (heldOf t .links) ∙ linked) e)
+          go : (b : Bool) (x : ℕ) → addressClass address (heldOf t .links) ≡ cond b x 0 → x ≡ addressClass address (heldOf t .links)
+          go true x e = sym e
+          go false x e = absurd (eqb-false (addressClass address (heldOf t .links)) 0 (no-class address (heldOf t .links) ∙ linked) e)
 
       -- 6: value not of the class
       pub not-of-class : {class : ℕ} → class ≡ classOf (getD (t .links) start nothing .kind) → class < value
@@ -191,7 +192,7 @@ module _ (t : Table) (address value : ℕ) (sound : ofLinks.isSound (heldOf t) �
       unfolding linkChecks
       not-of-class e h =
           sym (passed-by (noLinkTo address (heldOf t .links)) 5 _ linked
-          ∙ refused-by (ltb (addressClass address (heldOf t .links)) value) 6 [] (lt-ltb _ _ (omega (arith, e, first-class))))
+          ∙ refused-by (ltb (addressClass address (heldOf t .links)) value) 6 [] (lt-ltb (addressClass address (heldOf t .links)) value (omega (arith, e, first-class))))
 
       -- neither
       pub of-class : {class : ℕ} → class ≡ classOf (getD (t .links) start nothing .kind) → value ≤ class
@@ -199,5 +200,5 @@ module _ (t : Table) (address value : ℕ) (sound : ofLinks.isSound (heldOf t) �
       unfolding linkChecks
       of-class e h =
           sym (passed-by (noLinkTo address (heldOf t .links)) 5 _ linked
-          ∙ passed-by (ltb (addressClass address (heldOf t .links)) value) 6 [] (le-ltb _ _ (omega (arith, e, first-class)))
+          ∙ passed-by (ltb (addressClass address (heldOf t .links)) value) 6 [] (le-ltb (addressClass address (heldOf t .links)) value (omega (arith, e, first-class)))
           ∙ none-left)

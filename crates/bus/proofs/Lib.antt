@@ -5,3 +5,7 @@ pub mod Passing
 pub mod Cells
 pub mod Driving
 pub mod Soundness
+pub mod Outcomes
+pub mod Locality
+pub mod Readings
+pub mod Answers

@@ -3,3 +3,5 @@ pub mod Reports
 pub mod Telegrams
 pub mod TimeSteps
 pub mod Strip
+pub mod Locality
+pub mod Answers

@@ -1,7 +1,8 @@
 -- What is left of the links, on the panel so far, leads to what all of them lead to.
 use Prim.Native.Nat.{_-_, _<_}
 use native.Mathlib.Omega.{arith}
-use lib.ListN.{getD}
+use mathlib.Core.Path.{_≡_}
+use lib.ListN.{length, getD}
 use borrow.Author.Needs.{needs}
 use Rattle.laws.proofs.Fills.{long}
 use Rattle.tags.specs.Tags.{places}
@@ -21,11 +22,15 @@ loop-holds c =
     let start = c .before in
     deliver-start (start .args .value) (start .args .panel) (start .args .span .start) (start .args .span .end) (search (long, needs))
 
+-- the table has its 512 places
+places-of : (c : tie.Start Inv-loop μ-loop) → length (c .args .panel .table .links) ≡ 512
+places-of c = search (long, needs)
+
 loop-again : tie.Need-loop-again Inv-loop μ-loop
 loop-again c =
     let at = c .before .before .before .before .before in
     let start = at .before .before in
-    deliver-turn (start .args .value) (start .args .panel) (start .args .span .start) (start .args .span .end) (start .pre .0) (search (long, needs))
+    deliver-turn (start .args .value) (start .args .panel) (start .args .span .start) (start .args .span .end) (start .pre .0) (places-of start)
     (start .pre .1) (at .loop .next) (at .loop .i) (c .hear .result) (c .before .before .before .before .loop-test .taken) (c .hear .ensures) (at .loop .inv)
 
 returns : tie.Need-returns Inv-loop μ-loop
@@ -44,7 +49,7 @@ short c =
 low : (c : tie.In-loop Inv-loop μ-loop) → getD (c .before .before .before .args .panel .table .links) (c .before .loop .i) nothing .tag < places
 low c =
     let start = c .before .before .before in
-    tag-low (start .args .value) (start .args .panel) (start .args .span .start) (start .args .span .end) (start .pre .0) (search (long, needs))
+    tag-low (start .args .value) (start .args .panel) (start .args .span .start) (start .args .span .end) (start .pre .0) (places-of start)
     (start .pre .1) (c .before .loop .i) (c .loop-test .taken)
 
 pub deliver-spec : {M : Type 1} → statement M

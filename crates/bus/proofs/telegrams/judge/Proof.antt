@@ -21,7 +21,10 @@ said c =
     ∙ ap (λ (out : Bool). refusal (All (start .args .lent) places (modelOf (start .args .panel)) out [])) (c .before .is-outside .ensures)
 
 returns : tie.Need-returns
-returns c = shared-refused _ _ _ _ _ (said (c .before)) (c .if1 .taken)
+returns c =
+    let start = c .before .before .before in
+    let m = modelOf (start .args .panel) in
+    shared-refused (start .args .lent) places m (isOutside (start .args .address) (start .args .value)) (linkChecks (start .args .address) (start .args .value) (m .table .links)) (said (c .before)) (c .if1 .taken)
 
 judge-links-requires : tie.Need-judge-links-requires
 judge-links-requires c κs =
@@ -31,7 +34,10 @@ judge-links-requires c κs =
     (table-sound (modelOf (start .args .panel)) (known .sound), inside (start .args .address) (start .args .value) (known .within) .address-high)
 
 returns-2 : tie.Need-returns-2
-returns-2 c = shared-passed _ _ _ _ _ (sym (said (c .before .before)) ∙ c .before .if1 .left) (c .judge-links .ensures)
+returns-2 c =
+    let start = c .before .before .before .before in
+    let m = modelOf (start .args .panel) in
+    shared-passed (start .args .lent) places m (isOutside (start .args .address) (start .args .value)) (linkChecks (start .args .address) (start .args .value) (m .table .links)) (sym (said (c .before .before)) ∙ c .before .if1 .left) (c .judge-links .ensures)
 
 pub judge-spec : {M : Type 1} → statement M
 judge-spec =

@@ -21,6 +21,10 @@ returns : tie.Need-returns
 unfolding telegrammed telegramChecks lentChecks
 returns c = refused-leaves _ _ _ _ (c .before .judge .ensures) (c .if1 .taken)
 
+-- the table has its 512 places
+places-of : (c : tie.Start) → length (c .args .panel .table .links) ≡ 512
+places-of c = search (long, needs)
+
 -- what the judge has shown
 known : (c : tie.Else1)
     → Accepted (length (c .before .before .before .args .cells .now)) (c .before .before .before .args .address) (c .before .before .before .args .value) (modelOf (c .before .before .before .args .panel))
@@ -33,14 +37,14 @@ deliver-requires : tie.Need-deliver-requires
 deliver-requires c κs =
     let start = c .before .before .before .before in
     let shown = known (c .before) in
-    (sound-panel (start .args .panel) (search needs) (shown .sound), omega (arith, c .of .ensures, ends-low (start .args .panel .table) (start .args .address) 0 (table-sound (modelOf (start .args .panel)) (shown .sound)) (search (long, needs))))
+    (sound-panel (start .args .panel) (search needs) (shown .sound), omega (arith, c .of .ensures, ends-low (start .args .panel .table) (start .args .address) 0 (table-sound (modelOf (start .args .panel)) (shown .sound)) (places-of start)))
 
 fill-requires : tie.Need-fill-requires
 fill-requires c κs =
     let start = c .before .before .before .before .before .before in
     let m = modelOf (start .args .panel) in
     let shown = known (c .before .before .before) in
-    (shown .lent-all, handed-present (start .args .value) _ m (c .before .deliver .ensures), handed-sound (start .args .value) _ m (shown .range .byte) (sound-panel (start .args .panel) (search needs) (shown .sound)) (c .before .deliver .ensures))
+    (shown .lent-all, (handed-present (start .args .value) _ m (c .before .deliver .ensures), handed-sound (start .args .value) _ m (shown .range .byte) (sound-panel (start .args .panel) (search needs) (shown .sound)) (c .before .deliver .ensures)))
 
 -- the panel that is handed back
 left : (c : tie.After-deliver) → modelOf (c .deliver .result)
@@ -51,7 +55,7 @@ left c =
     let shown = known (c .before .before) in
     c .deliver .ensures
     ∙ ap (λ (ls : List Link). delivered (start .args .value) ls (modelOf (start .args .panel)))
-    (span-links (start .args .panel .table) (start .args .address) 0 (table-sound (modelOf (start .args .panel)) (shown .sound)) (search (long, needs)) (c .before .of .ensures .0) (c .before .of .ensures .1))
+    (span-links (start .args .panel .table) (start .args .address) 0 (table-sound (modelOf (start .args .panel)) (shown .sound)) (places-of start) (c .before .of .ensures .0) (c .before .of .ensures .1))
 
 returns-2 : tie.Need-returns-2
 unfolding telegrammed telegramChecks lentChecks

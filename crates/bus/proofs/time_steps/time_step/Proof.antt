@@ -30,7 +30,7 @@ fill-requires c κs =
     let start = c .before .before .before .before .before in
     let m = modelOf (start .args .panel) in
     let shown = known (c .before .before) in
-    (shown .lent-all, later-present (start .args .dt) m (c .before .pass .ensures), later-sound (start .args .dt) m (sound-panel (start .args .panel) (search needs) (shown .sound)) (c .before .pass .ensures))
+    (shown .lent-all, (later-present (start .args .dt) m (c .before .pass .ensures), later-sound (start .args .dt) m (sound-panel (start .args .panel) (search needs) (shown .sound)) (c .before .pass .ensures)))
 
 returns-2 : tie.Need-returns-2
 unfolding timeStepped stepChecks lentChecks
