@@ -6,9 +6,9 @@ use native.Mathlib.Omega.{arith}
 use mathlib.Core.Path.{_≡_, refl, sym, ap, _∙_}
 use mathlib.Core.Bool.{Bool, true, false, cond, not, _&&_}
 use mathlib.Core.List.{List}
-use mathlib.Core.Option.{Option, none, some}
+use mathlib.Core.Option.{none, some}
 use lib.ListN.{length, getD}
-use Rattle.laws.specs.Fills.{tabulate, filled}
+use Rattle.laws.specs.Fills.{filled}
 use Rattle.laws.proofs.Choices.{cond-has}
 use Rattle.laws.proofs.Fills.{filled-all, tabulate-same}
 use Rattle.tags.specs.Tags.{TagSet, places, tagsOf}
@@ -17,7 +17,7 @@ use Rattle.blind.specs.Parameters.{bottom}
 use Rattle.reading.specs.Reports.{active, reading, report}
 use Rattle.reading.specs.Sound as ofBlind
 use Rattle.panel.specs.declared.Panel.{Panel}
-use Rattle.panel.specs.Panel.{Seat, nobody, placeOf, seatsOf, modelOf, presentIn}
+use Rattle.panel.specs.Panel.{nobody, placeOf, seatsOf, modelOf, presentIn}
 use Rattle.panel.specs.Sound.{Sound}
 use Rattle.panel.proofs.Seats.{present-tags, seat-present}
 use Rattle.bus.specs.Reports.{noReport, cell, reports}

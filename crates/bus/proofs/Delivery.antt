@@ -6,15 +6,13 @@ use native.Mathlib.Omega.{arith}
 use mathlib.Core.Path.{_≡_, refl, sym, ap, ap₂, _∙_}
 use mathlib.Core.Bool.{Bool, true, false, cond, _&&_}
 use mathlib.Core.List.{List, [], _∷_}
-use mathlib.Core.Logic.{_↔_}
 use mathlib.Core.Option.{Option, none, some, Option·map}
 use lib.ListN.{length, getD, set, take, drop, length-set}
 use lib.Seq.{getD-take, drop-cons}
 use lib.Dec.{eqb, ltb}
-use borrow.Author.Tests.{eq-eqb, ne-eqb, lt-ltb, le-ltb, eqb-true, eqb-false, ltb-false}
+use borrow.Author.Tests.{eq-eqb, ne-eqb, lt-ltb, le-ltb, eqb-true, eqb-false}
 use Rattle.answers.specs.Answers.{refusal}
 use Rattle.answers.proofs.Refusals.{refused-by, passed-by, none-left}
-use Rattle.laws.proofs.Choices.{both-left}
 use Rattle.tags.specs.Tags.{TagSet, places, tagsOf}
 use Rattle.blind.specs.declared.Blind.{Blind}
 use Rattle.rules.specs.Rules.{heeded}
@@ -30,12 +28,12 @@ use Rattle.links.proofs.Sound.{Fine, sound-reads, sound-decided}
 use Rattle.links.proofs.Spans.{addresses-up, rank-next, links-found, class-at-start, no-class}
 use Rattle.links.proofs.Stores.{few, many}
 use Rattle.panel.specs.declared.Panel.{Panel}
-use Rattle.panel.specs.Panel.{Seat, Model, nobody, placeOf, seatsOf, modelOf, presentIn, reseated, eachSeat}
+use Rattle.panel.specs.Panel.{Seat, Model, nobody, seatsOf, modelOf, reseated, eachSeat}
 use Rattle.panel.specs.Fields.{withBlinds}
 use Rattle.panel.specs.Sound.{Sound}
 use Rattle.panel.proofs.Seats.{same-model, seat-present, present-tags, blind-written}
 use Rattle.bus.specs.Seats.{onBlind}
-use Rattle.bus.specs.Telegrams.{linkChecks, served, delivered, afterTelegram}
+use Rattle.bus.specs.Telegrams.{linkChecks, served, delivered}
 use Rattle.bus.proofs.Searching.{start-most}
 
 -- the first of the elements from i to just before end
@@ -128,12 +126,12 @@ module _ (value : ℕ) (p : Panel) (start end : ℕ) where
     deliver-turn next i b h e so-far =
         let link = getD (p .table .links) i nothing in
         let present : tagsOf (next .present) (link .tag) ≡ true =
-            ap (λ t. tagsOf t (link .tag)) (so-far .present) ∙ tag-there i h in
+        ap (λ t. tagsOf t (link .tag)) (so-far .present) ∙ tag-there i h in
         let here : modelOf (withBlinds (set (next .blinds) (link .tag) b) next) ≡ eachSeat (served value link) (modelOf next) =
-            link-served next link value b present (omega (arith, tag-low i h, so-far .room)) e in
+        link-served next link value b present (omega (arith, tag-low i h, so-far .room)) e in
         let split : take (end - i) (drop i (heldOf (p .table) .links)) ≡ link ∷ take (end - (i + 1)) (drop (i + 1) (heldOf (p .table) .links)) =
-            span-next (heldOf (p .table) .links) nothing i end h (omega (arith, full))
-            ∙ ap (λ (l : Link). l ∷ take (end - (i + 1)) (drop (i + 1) (heldOf (p .table) .links))) (held-at i h) in
+        span-next (heldOf (p .table) .links) nothing i end h (omega (arith, full))
+        ∙ ap (λ (l : Link). l ∷ take (end - (i + 1)) (drop (i + 1) (heldOf (p .table) .links))) (held-at i h) in
         record {
           present = so-far .present;
           room = length-set (next .blinds) (link .tag) b ∙ so-far .room;
@@ -153,28 +151,37 @@ module _ (t : Table) (address value : ℕ) (sound : ofLinks.isSound (heldOf t) �
   pub ends-low : startOf address (heldOf t .links) + length (linksTo address (heldOf t .links)) ≤ t .count
   ends-low = omega (arith, ends-at, start-most t (address + 1) sound room)
 
-  module _ {start end : ℕ} (from : start ≡ startOf address (heldOf t .links))
-      (to : end ≡ startOf address (heldOf t .links) + length (linksTo address (heldOf t .links))) where
+  module _ {start count : ℕ} (from : start ≡ startOf address (heldOf t .links)) (counted : count ≡ length (linksTo address (heldOf t .links))) where
     -- they are the links of the span
-    pub span-links : take (end - start) (drop start (heldOf t .links)) ≡ linksTo address (heldOf t .links)
+    pub span-links : take count (drop start (heldOf t .links)) ≡ linksTo address (heldOf t .links)
     span-links =
-        let many-of : end - start ≡ length (linksTo address (heldOf t .links)) = omega arith in
-        ap₂ (λ (k n : ℕ). take k (drop n (heldOf t .links))) many-of from ∙ links-found address (heldOf t .links) (sound-reads (heldOf t) sound .1)
+        ap₂ (λ (k n : ℕ). take k (drop n (heldOf t .links))) counted from ∙ links-found address (heldOf t .links) (sound-reads (heldOf t) sound .1)
 
     -- 5: no link for this address
-    pub no-link : end ≤ start → 5 ≡ refusal (linkChecks address value (heldOf t .links))
+    pub no-link : count ≡ 0 → 5 ≡ refusal (linkChecks address value (heldOf t .links))
     unfolding linkChecks noLinkTo
     no-link h = sym (refused-by (eqb (length (linksTo address (heldOf t .links))) 0) 5 _ (eq-eqb (length (linksTo address (heldOf t .links))) 0 (omega arith)))
 
-    module _ (some-link : start < end) where
+    module _ (some-link : count ≡ 0 → ⊥) where
       linked : noLinkTo address (heldOf t .links) ≡ false
       unfolding noLinkTo
-      linked = ne-eqb (length (linksTo address (heldOf t .links))) 0 (λ e. omega arith)
+      linked = ne-eqb (length (linksTo address (heldOf t .links))) 0 (λ e. some-link (counted ∙ e))
+
+      linked-some : 0 < length (linksTo address (heldOf t .links))
+      linked-some = go (length (linksTo address (heldOf t .links))) refl
+        where
+          go : (n : ℕ) → length (linksTo address (heldOf t .links)) ≡ n → 0 < n
+          go zero e = absurd (some-link (counted ∙ e))
+          go (suc n) e = omega arith
+
+      -- the first of them is in the table
+      pub first-held : start < t .count
+      first-held = omega (arith, ends-low, linked-some)
 
       -- the first of them has the class of the address
       first-class : classOf (getD (t .links) start nothing .kind) ≡ addressClass address (heldOf t .links)
       first-class =
-          ap (λ (l : Link). classOf (l .kind)) (sym (getD-take (t .count) (t .links) start nothing (omega (arith, ends-low))))
+          ap (λ (l : Link). classOf (l .kind)) (sym (getD-take (t .count) (t .links) start nothing first-held))
           ∙ ap (λ (k : ℕ). classOf (getD (heldOf t .links) k nothing .kind)) from
           ∙ go (ltb (startOf address (heldOf t .links)) (length (heldOf t .links)) && eqb (getD (heldOf t .links) (startOf address (heldOf t .links)) nothing .address) address) _
           (class-at-start address (heldOf t .links) (addresses-up (heldOf t .links) (fine .ranged) (fine .ascends)))

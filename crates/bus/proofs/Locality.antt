@@ -143,7 +143,7 @@ module _ (tag address : ℕ) (m : Model) where
   unfolding ownLinks linksTo noLinkTo by-tag by-address
   own-linked link rest own =
       let some-own : length (kept by-tag (kept by-address (m .table .links))) ≡ suc (length rest) =
-          ap length (kept-swap by-tag by-address (m .table .links) ∙ own) in
+      ap length (kept-swap by-tag by-address (m .table .links) ∙ own) in
       ne-eqb (length (kept by-address (m .table .links))) 0 (λ e. omega (arith, kept-length by-tag (kept by-address (m .table .links))))
 
 -- ---- the calls, seen from one blind
@@ -165,9 +165,9 @@ module _ (address value : ℕ) (m : Model) (cells : List ℕ) (tag : ℕ) (seat 
   unfolding telegrammed
   telegram-local e =
       let after : afterTelegram address value m .seats tag ≡ some (onBlind (heardBy value (reached tag address m)) seat) =
-          after-telegram-at address value m tag ∙ ap (Option·map (onBlind (heardBy value (reached tag address m)))) there in
+      after-telegram-at address value m tag ∙ ap (Option·map (onBlind (heardBy value (reached tag address m)))) there in
       let leaves = leaves-done (refusal (telegramChecks address value m cells)) (record { panel = m; cells = cells }) (length (linksTo address (m .table .links)))
-          (record { panel = afterTelegram address value m; cells = reports m (afterTelegram address value m) }) e in
+      (record { panel = afterTelegram address value m; cells = reports m (afterTelegram address value m) }) e in
       record {
         seated = ap (λ (l : Left). l .panel .seats tag) leaves ∙ after;
         told = ap (λ (l : Left). getD (l .cells) tag noReport) leaves

@@ -1,19 +1,19 @@
 -- Time, place by place: after i turns the blinds of the first i tags are dt milliseconds on.
 -- Assumes nothing.
-use Prim.Native.Nat.{ℕ, _+_, _^_, _≤_, _<_}
+use Prim.Native.Nat.{ℕ, _+_, _^_, _<_}
 use native.Mathlib.Nat.{le-refl}
 use native.Mathlib.Omega.{arith}
-use mathlib.Core.Path.{_≡_, refl, sym, ap, _∙_}
-use mathlib.Core.Bool.{Bool, true, cond}
+use mathlib.Core.Path.{_≡_, ap, _∙_}
+use mathlib.Core.Bool.{Bool, cond}
 use mathlib.Core.List.{List}
 use lib.ListN.{length, getD, set}
 use Rattle.laws.specs.Fills.{filled}
-use Rattle.laws.proofs.Fills.{filled-at, filled-ahead, filled-more, filled-length}
+use Rattle.laws.proofs.Fills.{filled-at, filled-ahead, filled-more}
 use Rattle.tags.specs.Tags.{places, tagsOf}
 use Rattle.blind.specs.declared.Blind.{Blind}
 use Rattle.blind.specs.Millisecond.{milliseconds}
 use Rattle.panel.specs.declared.Panel.{Panel}
-use Rattle.panel.specs.Panel.{Seat, nobody, placeOf, modelOf}
+use Rattle.panel.specs.Panel.{nobody, modelOf}
 use Rattle.panel.specs.Fields.{withBlinds}
 use Rattle.panel.proofs.Seats.{places-written}
 use Rattle.bus.specs.Seats.{onBlind}
@@ -35,7 +35,7 @@ module _ (dt : ℕ) (p : Panel) where
         → withBlinds (set (next .blinds) i b) next ≡ passedBy (i + 1)
     one-more next i b so-far h e =
         let here : getD (next .blinds) i nobody ≡ getD (p .blinds) i nobody =
-            ap (λ (q : Panel). getD (q .blinds) i nobody) so-far ∙ filled-ahead later i (p .blinds) i nobody (le-refl i) in
+        ap (λ (q : Panel). getD (q .blinds) i nobody) so-far ∙ filled-ahead later i (p .blinds) i nobody (le-refl i) in
         ap (λ (q : Panel). withBlinds (set (q .blinds) i b) q) so-far
         ∙ ap (λ (l : List Blind). withBlinds l p)
         (filled-more later i (p .blinds) b (omega arith) (e ∙ ap (λ (x : Blind). cond (tagsOf (p .present) i) (milliseconds dt x) x) here))

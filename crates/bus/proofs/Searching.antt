@@ -13,7 +13,7 @@ use borrow.Author.Tests.{ltb-true, ltb-false}
 use Rattle.links.specs.declared.table.Table.{Table}
 use Rattle.links.specs.Links.{rank, heldOf, startOf}
 use Rattle.links.specs.Sound.{nothing, isSound}
-use Rattle.links.proofs.Each.{Each, more, each-at, each-map}
+use Rattle.links.proofs.Each.{more, each-at, each-map}
 use Rattle.links.proofs.Order.{rank-below, rank-none, rank-bounded}
 use Rattle.links.proofs.Spans.{Up, addresses-up}
 use Rattle.links.proofs.Sound.{sound-reads}
@@ -66,7 +66,7 @@ module _ (t : Table) (address : ℕ) (sound : isSound (heldOf t) ≡ true) (room
   low-turn i h e below =
       let low : getD (t .links) i nothing .address < address = ltb-true _ _ (sym e ∙ below) in
       let reach : i < rank (λ l. l .address) address (heldOf t .links) =
-          below-reach (λ l. l .address) address nothing (heldOf t .links) i up (omega (arith, full)) (rw (held-at i h) low) in
+      below-reach (λ l. l .address) address nothing (heldOf t .links) i up (omega (arith, full)) (rw (held-at i h) low) in
       omega arith
 
   -- it is not: neither is any behind it

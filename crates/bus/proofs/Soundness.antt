@@ -2,24 +2,20 @@
 -- Assumes nothing.
 use Prim.Native.Nat.{ℕ, _≤_}
 use mathlib.Core.Path.{_≡_, refl, sym, ap, _∙_, subst, fun-ext}
-use mathlib.Core.Bool.{Bool, true, false, cond}
 use mathlib.Core.List.{List, [], _∷_}
-use mathlib.Core.Option.{some}
 use lib.Dec.{eqb}
 use Rattle.laws.proofs.Choices.{cond-has}
-use Rattle.blind.specs.declared.Blind.{Blind}
 use Rattle.blind.specs.Millisecond.{milliseconds}
 use Rattle.reading.specs.Sound as ofBlind
 use Rattle.rules.specs.Rules.{heeded}
 use Rattle.rules.specs.Telegrams.{inputOf}
 use Rattle.conduct.proofs.Soundness.{heeded-sound, input-of-class, milliseconds-sound}
 use Rattle.links.specs.declared.link.Link.{Link}
-use Rattle.links.specs.Links.{linksTo}
 use Rattle.panel.specs.Panel.{Seat, Model, presentIn, eachSeat}
 use Rattle.panel.specs.Sound.{Sound}
 use Rattle.panel.proofs.Kept.{each-present, blinds-sound}
 use Rattle.bus.specs.Seats.{onBlind}
-use Rattle.bus.specs.Telegrams.{served, delivered, afterTelegram}
+use Rattle.bus.specs.Telegrams.{served, delivered}
 use Rattle.bus.specs.TimeSteps.{afterStep}
 
 -- ---- telegrams

@@ -2,7 +2,7 @@
 // address, so those of one address stand together, and each end is found by halving.
 use links::link::Link;
 use links::table::Table;
-ghost use Prim.Native.Nat.{_≤_, _+_};
+ghost use Prim.Native.Nat.{_≤_};
 ghost use mathlib.Core.Path.{_≡_};
 ghost use mathlib.Core.Bool.{true};
 ghost use lib.ListN.{length};
@@ -10,21 +10,24 @@ ghost use lib.Dec.{ltb};
 ghost use Rattle.links.specs.Links.{heldOf, startOf, linksTo};
 ghost use Rattle.links.specs.Sound.{isSound};
 
-// The links from start to just before end.
+// Where the links of an address start, and how many they are.
 pub(crate) struct Span {
     pub(crate) start: usize,
-    pub(crate) end: usize,
+    pub(crate) count: usize,
 }
 
 impl Span {
     pub(crate) fn of(table: Table, address: u64) -> Span
         requires { ⌜ isSound (heldOf table) ≡ true ⌝ }
         requires { ⌜ address ≤ 65535 ⌝ }
-        ensures { λ r. ⌜ (r .start ≡ startOf address (heldOf table .links)) × (r .end ≡ startOf address (heldOf table .links) + length (linksTo address (heldOf table .links))) ⌝ }
+        ensures { λ r. ⌜ (r .start ≡ startOf address (heldOf table .links)) × (r .count ≡ length (linksTo address (heldOf table .links))) ⌝ }
     {
         let start = below(table, address);
         let end = below(table, address + 1);
-        Span { start, end }
+        Span {
+            start,
+            count: end - start,
+        }
     }
 }
 

@@ -58,7 +58,8 @@ fn drive(panel: Panel, cells: &mut [u8])
         if panel.present.has(tag as u64) {
             let terminal = panel.terminals[tag] as usize;
             let blind = panel.blinds[tag];
-            cells[terminal] = motor(blind);
+            let command = motor(blind);
+            cells[terminal] = command;
         }
     }
 }

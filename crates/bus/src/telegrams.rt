@@ -5,8 +5,8 @@ use crate::reports::CELLS;
 use crate::reports::fill;
 use crate::spans::Span;
 use answers::DONE;
-use answers::NOT_OF_THE_CLASS;
 use answers::NO_LINK;
+use answers::NOT_OF_THE_CLASS;
 use blind::Blind;
 use links::link::Link;
 use links::link::class_of_kind;
@@ -15,7 +15,7 @@ use panel::Panel;
 use panel::calls::Answered;
 use rules::Input;
 use rules::telegrams::heed;
-ghost use Prim.Native.Nat.{_≤_, _-_};
+ghost use Prim.Native.Nat.{_≤_, _+_};
 ghost use mathlib.Core.Path.{_≡_};
 ghost use mathlib.Core.Bool.{true, not};
 ghost use mathlib.Core.List.{_∷_};
@@ -50,11 +50,12 @@ pub fn telegram(panel: Panel, address: u64, value: u64, cells: &mut [u16]) -> An
         };
     }
     let span = Span::of(panel.table, address);
+    let heard = span.count;
     let next = deliver(panel, span, value as u8);
     fill(panel, next, cells);
     Answered {
         answer: DONE,
-        count: (span.end - span.start) as u64,
+        count: heard as u64,
         panel: next,
     }
 }
@@ -89,7 +90,7 @@ fn judge_links(table: Table, address: u64, value: u64) -> u8
 {
     let span = Span::of(table, address);
     let start = span.start;
-    if span.end <= start {
+    if span.count == 0 {
         return NO_LINK;
     }
     let first = table.links[start];
@@ -108,13 +109,14 @@ fn class(link: Link) -> u64
 // Each link speaks to the blind of its tag, as the link before left it.
 fn deliver(panel: Panel, span: Span, value: u8) -> Panel
     requires { ⌜ Sound (modelOf panel) ⌝ }
-    requires { ⌜ span .end ≤ panel .table .count ⌝ }
-    ensures { λ r. ⌜ modelOf r ≡ delivered value (take (span .end - span .start) (drop (span .start) (modelOf panel .table .links))) (modelOf panel) ⌝ }
+    requires { ⌜ span .start + span .count ≤ panel .table .count ⌝ }
+    ensures { λ r. ⌜ modelOf r ≡ delivered value (take (span .count) (drop (span .start) (modelOf panel .table .links))) (modelOf panel) ⌝ }
 {
     let table = panel.table;
+    let start = span.start;
+    let end = start + span.count;
     let mut next = panel;
-    let mut i = span.start;
-    let end = span.end;
+    let mut i = start;
     while i < end {
         let link = table.links[i];
         let tag = link.tag as usize;

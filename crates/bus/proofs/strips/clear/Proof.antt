@@ -1,10 +1,8 @@
 -- After i turns the first i cells are off.
 use Prim.Native.Nat.{ℕ, _-_, _≤_}
 use native.Mathlib.Omega.{arith}
-use native.Mathlib.Nat.{le-antisymm}
 use mathlib.Core.Path.{_≡_, refl, sym, ap, _∙_}
 use lib.ListN.{length, set}
-use borrow.Author.Needs.{needs}
 use Rattle.laws.specs.Fills.{filled}
 use Rattle.laws.proofs.Fills.{filled-none, filled-length, filled-more, filled-all}
 use Rattle.bus.proofs.strips.clear.Statement.{statement}

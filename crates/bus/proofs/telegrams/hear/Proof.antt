@@ -1,3 +1,4 @@
+-- The kind and the value say the input, and the blind heeds it.
 use mathlib.Core.Path.{ap, _∙_}
 use borrow.Author.Needs.{needs}
 use Rattle.rules.specs.declared.Input.{Input}

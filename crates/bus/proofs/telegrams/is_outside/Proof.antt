@@ -1,4 +1,4 @@
-use borrow.Author.Needs.{needs}
+-- The three tests of the definition, one after the other.
 use borrow.Author.Tests.{lt-ltb, le-ltb}
 use Rattle.bus.specs.Telegrams.{isOutside}
 use Rattle.bus.proofs.telegrams.is_outside.Statement.{statement}

@@ -1,5 +1,4 @@
 -- The shared checks, then those of the links: a table that is not sound is never searched.
-use Prim.Native.Nat.{ℕ}
 use mathlib.Core.Path.{_≡_, sym, ap, _∙_}
 use mathlib.Core.Bool.{Bool}
 use mathlib.Core.List.{[]}
@@ -30,7 +29,7 @@ judge-links-requires : tie.Need-judge-links-requires
 judge-links-requires c κs =
     let start = c .before .before .before in
     let known = cleared (start .args .lent) places (modelOf (start .args .panel)) (isOutside (start .args .address) (start .args .value)) []
-        (sym (said (c .before)) ∙ c .if1 .left) in
+    (sym (said (c .before)) ∙ c .if1 .left) in
     (table-sound (modelOf (start .args .panel)) (known .sound), inside (start .args .address) (start .args .value) (known .within) .address-high)
 
 returns-2 : tie.Need-returns-2

@@ -3,7 +3,7 @@ use native.Mathlib.Omega.{arith}
 use borrow.Author.Needs.{needs}
 use Rattle.laws.proofs.Fills.{long}
 use Rattle.links.proofs.Stores.{few}
-use Rattle.bus.proofs.Delivery.{ends-low, no-link, not-of-class, of-class}
+use Rattle.bus.proofs.Delivery.{first-held, no-link, not-of-class, of-class}
 use Rattle.bus.proofs.telegrams.judge_links.Statement.{statement}
 use Rattle.bus.proofs.telegrams.judge_links.Tie as tie
 
@@ -16,12 +16,14 @@ returns c =
 mul-first : tie.Need-mul-first
 mul-first c =
     let start = c .before .before .before in
-    omega (arith, ends-low (start .args .t1) (start .args .address) 0 (start .pre .0) (search (long, needs)), few (start .args .t1) (start .pre .0))
+    let span = c .before .before .of .ensures in
+    omega (arith, first-held (start .args .t1) (start .args .address) 0 (start .pre .0) (search (long, needs)) (span .0) (span .1) (c .if1 .left), few (start .args .t1) (start .pre .0))
 
 element-copy-out-first : tie.Need-element-copy-out-first
 element-copy-out-first c =
     let start = c .before .before .before in
-    omega (arith, ends-low (start .args .t1) (start .args .address) 0 (start .pre .0) (search (long, needs)), few (start .args .t1) (start .pre .0))
+    let span = c .before .before .of .ensures in
+    omega (arith, first-held (start .args .t1) (start .args .address) 0 (start .pre .0) (search (long, needs)) (span .0) (span .1) (c .if1 .left), few (start .args .t1) (start .pre .0))
 
 returns-2 : tie.Need-returns-2
 returns-2 c =

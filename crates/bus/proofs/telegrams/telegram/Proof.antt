@@ -1,7 +1,7 @@
 -- Refused: as it was. Accepted: the span of the address holds its links, and each of them is delivered to.
 use native.Mathlib.Omega.{arith}
-use mathlib.Core.Path.{_≡_, refl, sym, ap, _∙_}
-use mathlib.Core.List.{List, []}
+use mathlib.Core.Path.{_≡_, sym, ap, _∙_}
+use mathlib.Core.List.{List}
 use borrow.Author.Needs.{needs}
 use lib.ListN.{length}
 use Rattle.laws.proofs.Fills.{long}
@@ -37,7 +37,7 @@ deliver-requires : tie.Need-deliver-requires
 deliver-requires c κs =
     let start = c .before .before .before .before in
     let shown = known (c .before) in
-    (sound-panel (start .args .panel) (search needs) (shown .sound), omega (arith, c .of .ensures, ends-low (start .args .panel .table) (start .args .address) 0 (table-sound (modelOf (start .args .panel)) (shown .sound)) (places-of start)))
+    (sound-panel (start .args .panel) (search needs) (shown .sound), omega (arith, c .of .ensures .0, c .of .ensures .1, ends-low (start .args .panel .table) (start .args .address) 0 (table-sound (modelOf (start .args .panel)) (shown .sound)) (places-of start)))
 
 fill-requires : tie.Need-fill-requires
 fill-requires c κs =
@@ -60,13 +60,12 @@ left c =
 returns-2 : tie.Need-returns-2
 unfolding telegrammed telegramChecks lentChecks
 returns-2 c =
-    let delivers = c .before .before .before .before .before in
+    let delivers = c .before .before .before .before in
     let start = delivers .before .before .before .before .before in
-    let span = delivers .before .of .ensures in
     done-leaves _ _ _ (sym (delivers .before .before .before .judge .ensures) ∙ delivers .before .before .if1 .left)
-    (omega (arith, span))
+    (delivers .before .of .ensures .1)
     (left delivers)
-    (c .before .before .before .fill .ensures ∙ ap (reports (modelOf (start .args .panel))) (left delivers))
+    (c .before .before .fill .ensures ∙ ap (reports (modelOf (start .args .panel))) (left delivers))
 
 pub telegram-spec : {M : Type 1} → statement M
 telegram-spec =
@@ -78,6 +77,5 @@ telegram-spec =
     (λ c. omega (arith, known (c .before) .range .byte))
     deliver-requires
     fill-requires
-    (λ c. omega (arith, c .before .before .before .before .before .before .of .ensures))
     (λ c. search needs)
     returns-2)

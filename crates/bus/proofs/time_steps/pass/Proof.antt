@@ -1,7 +1,7 @@
 -- After i turns the blinds of the first i tags are dt milliseconds on.
-use Prim.Native.Nat.{ℕ, _-_, _≤_}
+use Prim.Native.Nat.{_-_, _≤_}
 use native.Mathlib.Omega.{arith}
-use mathlib.Core.Path.{_≡_, refl, sym, ap, _∙_}
+use mathlib.Core.Path.{_≡_, sym, ap, _∙_}
 use mathlib.Core.List.{List}
 use Rattle.blind.specs.declared.Blind.{Blind}
 use Rattle.panel.specs.Fields.{withBlinds}

@@ -1,6 +1,5 @@
 -- Refused: as it was. Accepted: every blind is dt milliseconds on, and the cells are filled.
-use mathlib.Core.Path.{_≡_, refl, sym, ap, _∙_}
-use mathlib.Core.Bool.{Bool, true}
+use mathlib.Core.Path.{refl, sym, ap, _∙_}
 use mathlib.Core.List.{[]}
 use borrow.Author.Needs.{needs}
 use lib.Dec.{ltb}
