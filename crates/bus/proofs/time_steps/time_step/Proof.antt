@@ -17,7 +17,7 @@ use Rattle.bus.proofs.time_steps.time_step.Tie as tie
 
 returns : tie.Need-returns
 unfolding timeStepped stepChecks lentChecks
-returns c = refused-leaves _ _ _ _ (c .before .judge-lent .ensures) (c .if1 .taken)
+returns c = refused-leaves _ _ _ _ (search needs) (search needs)
 
 -- what the judge has shown
 known : (c : tie.Else1)
