@@ -36,7 +36,7 @@ use Rattle.bus.specs.Telegrams.{isOutside, linkChecks, telegramChecks, s
 use Rattle.bus.specs.TimeSteps.{afterStep, timeStepped}
 use Rattle.bus.specs.Locality.{ownLinks, reached, heardBy}
 use Rattle.bus.proofs.Checks.{sound-passed}
-use Rattle.bus.proofs.Outcomes.{answer-is, leaves-done}
+use Rattle.bus.proofs.Outcomes.{answer-is, leaves-has, leaves-done}
 
 -- ---- lists
 
@@ -157,6 +157,20 @@ cell-seen : (m n : Model) (tag : ℕ) (seat : Seat) (new : Blind) → tag < plac
     → n .seats tag ≡ some (record { terminal = seat .terminal; blind = new }) → getD (reports m n) tag noReport ≡ report (seat .blind) new
 unfolding reports
 cell-seen m n tag seat new h e f = tabulate-at places (λ t. cell (m .seats t) (n .seats t)) tag noReport h ∙ ap₂ cell e f
+
+-- a telegram leaves the links alone, whatever its answer
+pub telegram-links : (address value : ℕ) (m : Model) (cells : List ℕ) → telegrammed address value m cells .leaves .panel .table ≡ m .table
+unfolding telegrammed afterTelegram
+telegram-links address value m cells =
+    leaves-has _ (record { panel = m; cells = cells }) _ (record { panel = afterTelegram address value m; cells = reports m (afterTelegram address value m) })
+    (λ (l : Left). l .panel .table ≡ m .table) refl (λ e. delivered-table value (linksTo address (m .table .links)) m)
+
+-- and so does a time step
+pub time-step-links : (dt : ℕ) (m : Model) (cells : List ℕ) → timeStepped dt m cells .leaves .panel .table ≡ m .table
+unfolding timeStepped afterStep eachSeat
+time-step-links dt m cells =
+    leaves-has _ (record { panel = m; cells = cells }) _ (record { panel = afterStep dt m; cells = reports m (afterStep dt m) })
+    (λ (l : Left). l .panel .table ≡ m .table) refl (λ e. refl)
 
 module _ (address value : ℕ) (m : Model) (cells : List ℕ) (tag : ℕ) (seat : Seat) (sound : Sound m) (there : m .seats tag ≡ some seat) where
   -- accepted: the blind has heard its own links of this address, in their order, and its cell tells of it alone
