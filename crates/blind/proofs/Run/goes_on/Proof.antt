@@ -1,3 +1,5 @@
+-- `Run::goes_on`: the last direction that was matched picks the case of `isLast`, and `goes` promises its right side.
+-- Assumes nothing.
 use borrow.Author.Needs.{needs}
 use Rattle.blind.proofs.Run.goes_on.Statement.{statement}
 use Rattle.blind.proofs.Run.goes_on.Tie as tie

@@ -1,5 +1,5 @@
 -- What is left of the links decides as all of them do; a link that names no present blind decides at once.
-use Prim.Native.Nat.{_+_, _-_, _≤_}
+use Prim.Native.Nat.{_-_, _≤_}
 use native.Mathlib.Omega.{arith}
 use mathlib.Core.Path.{_≡_, refl, sym, ap, _∙_}
 use lib.ListN.{length, getD, drop}
@@ -39,7 +39,7 @@ here c =
     let start = c .before .before .before .before in
     let t = start .args .t2 in
     c .names-present .ensures
-    ∙ ap (λ (l : Link). tagsOf (start .args .present) (l .tag)) (sym (getD-take (t .count) (t .links) (c .before .before .before .loop .i) nothing (c .before .before .loop-test .taken)))
+    ∙ ap (λ (l : Link). tagsOf (start .args .present) (l .tag)) (sym (getD-take (t .count) (t .links) (c .before .before .before .loop .i) nothing (omega arith)))
 
 returns : tie.Need-returns Inv-loop μ-loop
 unfolding allNamed
