@@ -1,0 +1,11 @@
+pub mod Checks
+pub mod Searching
+pub mod Delivery
+pub mod Passing
+pub mod Cells
+pub mod Driving
+pub mod Soundness
+pub mod Outcomes
+pub mod Locality
+pub mod Readings
+pub mod Answers

@@ -1,0 +1,75 @@
+-- Every call of the bus side keeps a sound panel sound, and no tag gets or loses its blind.
+-- Assumes nothing.
+use Prim.Native.Nat.{ℕ, _≤_}
+use mathlib.Core.Path.{_≡_, refl, sym, ap, _∙_, subst, fun-ext}
+use mathlib.Core.List.{List, [], _∷_}
+use lib.Dec.{eqb}
+use Rattle.laws.proofs.Choices.{cond-has}
+use Rattle.blind.specs.Millisecond.{milliseconds}
+use Rattle.reading.specs.Sound as ofBlind
+use Rattle.rules.specs.Rules.{heeded}
+use Rattle.rules.specs.Telegrams.{inputOf}
+use Rattle.conduct.proofs.Soundness.{heeded-sound, input-of-class, milliseconds-sound}
+use Rattle.links.specs.declared.link.Link.{Link}
+use Rattle.panel.specs.Panel.{Seat, Model, presentIn, eachSeat}
+use Rattle.panel.specs.Sound.{Sound}
+use Rattle.panel.proofs.Kept.{each-present, blinds-sound}
+use Rattle.bus.specs.Seats.{onBlind}
+use Rattle.bus.specs.Telegrams.{served, delivered}
+use Rattle.bus.specs.TimeSteps.{afterStep}
+
+-- ---- telegrams
+
+module _ (value : ℕ) where
+  -- a link leaves every blind at its terminal
+  pub served-stays : (link : Link) (tag : ℕ) (seat : Seat) → served value link tag seat .terminal ≡ seat .terminal
+  unfolding served
+  served-stays link tag seat =
+      cond-has (λ (s : Seat). s .terminal ≡ seat .terminal) (eqb tag (link .tag)) (onBlind (heeded (inputOf (link .kind) value)) seat) seat (λ e. refl) (λ e. refl)
+
+  pub served-sound : value ≤ 255 → (link : Link) (tag : ℕ) (seat : Seat) → ofBlind.Sound (seat .blind) → ofBlind.Sound (served value link tag seat .blind)
+  unfolding served
+  served-sound byte link tag seat s =
+      cond-has (λ (x : Seat). ofBlind.Sound (x .blind)) (eqb tag (link .tag)) (onBlind (heeded (inputOf (link .kind) value)) seat) seat
+      (λ e. heeded-sound (inputOf (link .kind) value) (seat .blind) (input-of-class (link .kind) value byte) s) (λ e. s)
+
+  pub delivered-sound : value ≤ 255 → (links : List Link) (m : Model) → Sound m → Sound (delivered value links m)
+  unfolding delivered
+  delivered-sound byte [] m s = s
+  delivered-sound byte (link ∷ links) m s =
+      delivered-sound byte links (eachSeat (served value link) m)
+      (blinds-sound (served value link) m s (served-stays link) (λ tag seat at. served-sound byte link tag seat (s .blinds tag seat at)))
+
+  pub delivered-present : (links : List Link) (m : Model) → presentIn (delivered value links m) ≡ presentIn m
+  unfolding delivered
+  delivered-present [] m = refl
+  delivered-present (link ∷ links) m =
+      delivered-present links (eachSeat (served value link) m) ∙ fun-ext (each-present (served value link) m)
+
+-- ---- time steps
+
+pub step-sound : (dt : ℕ) (m : Model) → Sound m → Sound (afterStep dt m)
+unfolding afterStep
+step-sound dt m s =
+    blinds-sound (λ tag. onBlind (milliseconds dt)) m s (λ tag seat. refl)
+    (λ tag seat at. milliseconds-sound dt (seat .blind) (s .blinds tag seat at))
+
+pub step-present : (dt : ℕ) (m : Model) → presentIn (afterStep dt m) ≡ presentIn m
+unfolding afterStep
+step-present dt m = fun-ext (each-present (λ tag. onBlind (milliseconds dt)) m)
+
+-- ---- a panel that a function hands back
+
+-- one that stands for what a delivery leaves
+pub handed-sound : (value : ℕ) (links : List Link) (m : Model) {n : Model} → value ≤ 255 → Sound m → n ≡ delivered value links m → Sound n
+handed-sound value links m byte s e = subst Sound (sym e) (delivered-sound value byte links m s)
+
+pub handed-present : (value : ℕ) (links : List Link) (m : Model) {n : Model} → n ≡ delivered value links m → presentIn n ≡ presentIn m
+handed-present value links m e = ap presentIn e ∙ delivered-present value links m
+
+-- one that stands for what a time step leaves
+pub later-sound : (dt : ℕ) (m : Model) {n : Model} → Sound m → n ≡ afterStep dt m → Sound n
+later-sound dt m s e = subst Sound (sym e) (step-sound dt m s)
+
+pub later-present : (dt : ℕ) (m : Model) {n : Model} → n ≡ afterStep dt m → presentIn n ≡ presentIn m
+later-present dt m e = ap presentIn e ∙ step-present dt m

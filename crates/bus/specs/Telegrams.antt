@@ -1,0 +1,50 @@
+-- Document 01, "Links and telegrams": what a telegram answers, and what it does to the panel.
+-- Assumes nothing.
+use Prim.Native.Nat.{ℕ}
+use mathlib.Core.Bool.{Bool, cond, _||_}
+use mathlib.Core.List.{List, [], _∷_}
+use lib.ListN.{length}
+use lib.Dec.{eqb, ltb}
+use Rattle.answers.specs.Answers.{Check, refusal, Outcome, answered}
+use Rattle.tags.specs.Tags.{places}
+use Rattle.rules.specs.Rules.{heeded}
+use Rattle.rules.specs.Telegrams.{inputOf}
+use Rattle.links.specs.declared.link.Link.{Link}
+use Rattle.links.specs.Links.{linksTo, addressClass}
+use Rattle.links.specs.Edits.{noLinkTo}
+use Rattle.panel.specs.Panel.{Seat, Model, eachSeat}
+use Rattle.panel.specs.Calls.{lentChecks, Left}
+use Rattle.bus.specs.Seats.{onBlind}
+use Rattle.bus.specs.Reports.{reports}
+
+-- "A telegram is (address, value 0 to 255)", and an address is 1 to 65535: whether one of the two is outside its range.
+unfoldable pub isOutside : ℕ → ℕ → Bool
+isOutside address value = ltb address 1 || (ltb 65535 address || ltb 255 value)
+
+-- "Checks in order: .. telegram 5, 6": no link for this address; value not of the class of its links.
+unfoldable pub linkChecks : ℕ → ℕ → List Link → List Check
+linkChecks address value links = (noLinkTo address links, 5) ∷ (ltb (addressClass address links) value, 6) ∷ []
+
+unfoldable pub telegramChecks : ℕ → ℕ → Model → List ℕ → List Check
+telegramChecks address value m cells =
+    lentChecks places cells m (isOutside address value) (linkChecks address value (m .table .links))
+
+-- A link names a tag and a kind: the blind of the tag heeds what the value says on this kind, and every other is as it was.
+unfoldable pub served : ℕ → Link → ℕ → Seat → Seat
+served value link tag seat = cond (eqb tag (link .tag)) (onBlind (heeded (inputOf (link .kind) value)) seat) seat
+
+-- "It is delivered to the links .. in table order", each on the panel that the one before left.
+unfoldable pub delivered : ℕ → List Link → Model → Model
+delivered value [] m = m
+delivered value (link ∷ links) m = delivered value links (eachSeat (served value link) m)
+
+-- "Delivered to the links of its address."
+unfoldable pub afterTelegram : ℕ → ℕ → Model → Model
+afterTelegram address value m = delivered value (linksTo address (m .table .links)) m
+
+-- What a telegram answers, "how many there were", and what it leaves.
+unfoldable pub telegrammed : ℕ → ℕ → Model → List ℕ → Outcome Left
+telegrammed address value m cells =
+    answered (refusal (telegramChecks address value m cells)) (record { panel = m; cells = cells })
+    (length (linksTo address (m .table .links)))
+    (record { panel = afterTelegram address value m; cells = reports m (afterTelegram address value m) })
