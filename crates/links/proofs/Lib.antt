@@ -6,3 +6,5 @@ pub mod Sound
 pub mod Spans
 pub mod Stores
 pub mod Calls
+pub mod Sweep
+pub mod Editing

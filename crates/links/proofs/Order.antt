@@ -5,7 +5,7 @@ use native.Mathlib.Omega.{arith}
 use native.Mathlib.Decide.{decLt}
 use native.Mathlib.Numerals.{add-one}
 use mathlib.Core.Path.{_≡_, refl, sym, ap, ap₂, _∙_, subst}
-use mathlib.Core.Bool.{Bool, true, false, cond, not, _&&_, _||_, true≢false}
+use mathlib.Core.Bool.{Bool, true, false, cond, not, _&&_, _||_, true≢false, and-eq-true-iff}
 use mathlib.Core.List.{List, [], _∷_, _++_, List·Permᴰ, List·Permᴰ·nil, List·Permᴰ·cons, List·Permᴰ·swap, List·Permᴰ·trans, Permᴰ·refl}
 use lib.ListN.{length, getD, take, drop}
 use lib.Seq.{drop-cons}
@@ -104,6 +104,23 @@ module _ {A : Type 0} (key : A → ℕ) where
       go (yes h) ih = rw (low h, rank-below (key a) x xs h, leb·suc-suc (suc (rank key (key a) xs)) (length xs)) ih
       go (no h) ih = rw (rank-first (key a) x xs asc (omega arith), lt-ltb 0 (suc (length xs)) (omega arith)) (high h (eqb (key x) (key a)) refl)
 
+  -- where it is there, it stands behind all that are below it
+  pub in-found : (a : A) (xs : List A) (d : A) → Asc key xs → isIn key a xs ≡ true → (rank key (key a) xs < length xs) × (key (getD xs (rank key (key a) xs) d) ≡ key a)
+  in-found a xs d asc e =
+      let both = and-eq-true-iff (ltb (rank key (key a) xs) (length xs)) (eqb (key (getD xs (rank key (key a) xs) d)) (key a)) .0 (sym (is-in-at a xs d asc) ∙ e) in
+      (ltb-true (rank key (key a) xs) (length xs) (both .0), eqb-true (key (getD xs (rank key (key a) xs) d)) (key a) (both .1))
+
+  -- at the place where the search for it ended
+  module _ (a : A) (xs : List A) (d : A) (asc : Asc key xs) {place : ℕ} (searched : place ≡ rank key (key a) xs) where
+    at-place : isIn key a xs ≡ ltb place (length xs) && eqb (key (getD xs place d)) (key a)
+    at-place = rw (← searched) at (is-in-at a xs d asc)
+
+    pub in-past : length xs ≤ place → false ≡ isIn key a xs
+    in-past h = sym (rw (le-ltb place (length xs) h) at at-place)
+
+    pub in-here : place < length xs → eqb (key (getD xs place d)) (key a) ≡ isIn key a xs
+    in-here h = sym (rw (lt-ltb place (length xs) h) at at-place)
+
   -- ---- a new element
 
   pub inserted-below : (a x : A) (xs : List A) → key x < key a → inserted key a (x ∷ xs) ≡ x ∷ inserted key a xs
@@ -135,6 +152,15 @@ module _ {A : Type 0} (key : A → ℕ) where
       go : (b : Bool) → List·Permᴰ (a ∷ xs) (inserted key a xs) → List·Permᴰ (a ∷ x ∷ xs) (cond b (x ∷ inserted key a xs) (a ∷ x ∷ xs))
       go true p = List·Permᴰ·trans (List·Permᴰ·swap refl refl) (List·Permᴰ·cons refl p)
       go false p = Permᴰ·refl (a ∷ x ∷ xs)
+
+  pub inserted-length : (a : A) (xs : List A) → length (inserted key a xs) ≡ suc (length xs)
+  unfolding inserted
+  inserted-length a [] = refl
+  inserted-length a (x ∷ xs) = go (ltb (key x) (key a)) (inserted-length a xs)
+    where
+      go : (b : Bool) → length (inserted key a xs) ≡ suc (length xs) → length (cond b (x ∷ inserted key a xs) (a ∷ x ∷ xs)) ≡ suc (suc (length xs))
+      go true e = ap suc e
+      go false e = refl
 
   pub inserted-asc : (a : A) (xs : List A) → Asc key xs → isIn key a xs ≡ false → Asc key (inserted key a xs)
   unfolding inserted

@@ -4,12 +4,12 @@ use Prim.Native.Nat.{ℕ, zero, suc, _+_, _*_, _-_, _≤_, _<_}
 use native.Mathlib.Omega.{arith}
 use native.Mathlib.Decide.{decLt, ℕ-discrete}
 use mathlib.Core.Path.{_≡_, refl, sym, ap, ap₂, _∙_, subst}
-use mathlib.Core.Bool.{Bool, true, false, cond, not, _&&_}
+use mathlib.Core.Bool.{Bool, true, false, cond, not, _&&_, true≢false}
 use mathlib.Core.List.{List, [], _∷_}
 use lib.ListN.{length, getD, take, drop}
 use lib.Seq.{take-length}
 use lib.Dec.{eqb, ltb, leb·suc-suc}
-use borrow.Author.Tests.{lt-ltb, le-ltb, ltb-true, ltb-false, eq-eqb, ne-eqb}
+use borrow.Author.Tests.{lt-ltb, le-ltb, eq-eqb, ne-eqb, eqb-true, eqb-false}
 use Rattle.links.specs.declared.link.Link.{Link}
 use Rattle.links.specs.Links.{kept, rank, keyOf, classOf, linksTo, startOf, addressClass}
 use Rattle.links.specs.Sound.{nothing}
@@ -127,6 +127,18 @@ class-at-start address (l ∷ ls) up = go (decLt (l .address) address) (ℕ-disc
         rw (up-first by address l ls up (omega arith), ne-eqb (l .address) address n, lt-ltb 0 (suc (length ls)) (omega arith))
         (absent ls (each-map (λ y i. omega arith) (up .0)))
 
+class-none : (address : ℕ) → addressClass address [] ≡ 0
+unfolding addressClass
+class-none address = refl
+
+class-here : (address : ℕ) (l : Link) (ls : List Link) → l .address ≡ address → addressClass address (l ∷ ls) ≡ classOf (l .kind)
+unfolding addressClass
+class-here address l ls e = rw (eq-eqb (l .address) address e)
+
+class-skip : (address : ℕ) (l : Link) (ls : List Link) → (l .address ≡ address → ⊥) → addressClass address (l ∷ ls) ≡ addressClass address ls
+unfolding addressClass
+class-skip address l ls n = rw (ne-eqb (l .address) address n)
+
 -- every link of an address has the class of the address
 pub class-shared : (address : ℕ) (ls : List Link) → Pairs Agree ls → Each (λ l. l .address ≡ address → classOf (l .kind) ≡ addressClass address ls) ls
 unfolding addressClass
@@ -172,3 +184,37 @@ module _ (address : ℕ) (ls : List Link) (fine : Fine ls) {s : ℕ} (searched :
 
   pub class-same : s < length ls → getD ls s nothing .address ≡ address → classOf (getD ls s nothing .kind) ≡ addressClass address ls
   class-same h e = sym (rw (lt-ltb s (length ls) h, eq-eqb (getD ls s nothing .address) address e) at class-there)
+
+-- ---- the class, and a new link
+
+-- a new link has the class of its address, where the address has one: it agrees with every link there
+pub agrees-all : (l : Link) (ls : List Link) → Pairs Agree ls → otherClass l ls ≡ false → Each (Agree l) ls
+unfolding otherClass
+agrees-all l ls agree e =
+    each-map (λ y shared same. go (eqb (addressClass (l .address) ls) 0) (eqb (addressClass (l .address) ls) (classOf (l .kind))) refl refl y (shared (sym same)) e)
+    (class-shared (l .address) ls agree)
+  where
+    go : (b c : Bool) → eqb (addressClass (l .address) ls) 0 ≡ b → eqb (addressClass (l .address) ls) (classOf (l .kind)) ≡ c
+       → (y : Link) → classOf (y .kind) ≡ addressClass (l .address) ls → not b && not c ≡ false → classOf (l .kind) ≡ classOf (y .kind)
+    go true c f g y has e = absurd (omega (arith, has, class-some (y .kind), eqb-true (addressClass (l .address) ls) 0 f))
+    go false true f g y has e = sym (has ∙ eqb-true (addressClass (l .address) ls) (classOf (l .kind)) g)
+    go false false f g y has e = absurd (true≢false e)
+
+-- where a link agrees with every link of a list, its address has no other class there
+pub no-other-class : (l : Link) (ls : List Link) → Each (Agree l) ls → otherClass l ls ≡ false
+unfolding otherClass
+no-other-class l ls agree = go (eqb (addressClass (l .address) ls) 0) refl (walk ls agree)
+  where
+    Fits : List Link → Type 0
+    Fits xs = (addressClass (l .address) xs ≡ 0 → ⊥) → addressClass (l .address) xs ≡ classOf (l .kind)
+    walk : (xs : List Link) → Each (Agree l) xs → Fits xs
+    walk [] a some = absurd (some (class-none (l .address)))
+    walk (x ∷ xs) a some = here (ℕ-discrete (x .address) (l .address)) (walk xs (rest a)) some
+      where
+        here : Dec (x .address ≡ l .address) → Fits xs → Fits (x ∷ xs)
+        here (yes e) ih some = class-here (l .address) x xs e ∙ sym (first a (sym e))
+        here (no n) ih some = class-skip (l .address) x xs n ∙ ih (λ z. some (class-skip (l .address) x xs n ∙ z))
+    go : (b : Bool) → eqb (addressClass (l .address) ls) 0 ≡ b → Fits ls
+       → not b && not (eqb (addressClass (l .address) ls) (classOf (l .kind))) ≡ false
+    go true f fits = refl
+    go false f fits = ap not (eq-eqb (addressClass (l .address) ls) (classOf (l .kind)) (fits (eqb-false (addressClass (l .address) ls) 0 f)))

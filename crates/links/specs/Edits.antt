@@ -1,6 +1,7 @@
 -- Document 01, "Edits" and "Numbers the panel answers": what the calls of a table answer and leave.
 -- Assumes nothing.
 use Prim.Native.Nat.{ℕ, _+_}
+use mathlib.Core.Path.{_≡_}
 use mathlib.Core.Bool.{Bool, true, false, cond, not, _&&_, _||_}
 use mathlib.Core.List.{List, [], _∷_}
 use lib.ListN.{length}
@@ -100,6 +101,16 @@ tagRemoved tag h =
     answered (refusal (unsound h ∷ [])) h
     (moved keyOf (h .links) (dropped tag (h .links)))
     (holding (dropped tag (h .links)))
+
+-- Links added one after the other, by the call.
+unfoldable pub addedAll : List Link → Held → Held
+addedAll [] h = h
+addedAll (l ∷ ls) h = addedAll ls (added l h .leaves)
+
+-- Each of them is accepted.
+abbrev pub AllAccepted : List Link → Held → Type 0
+AllAccepted [] h = Unit {0}
+AllAccepted (l ∷ ls) h = (added l h .answer ≡ 0) × AllAccepted ls (added l h .leaves)
 
 -- What a result of a call says: the answer, the count, and what is found or left.
 abbrev pub foundOf : Found → Outcome ℕ

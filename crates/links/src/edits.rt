@@ -1,7 +1,222 @@
-use super::table::Table;
+// Document 01, "Edits": add a link, remove a link, remove all links of a tag.
+// Each answers how many surviving links stand at another place than before; a refused edit hands the table back as it was.
 
+ghost use Prim.Native.Nat.{_≤_, _<_, suc};
+ghost use mathlib.Core.Path.{_≡_};
+ghost use mathlib.Core.Bool.{true, cond, not, _&&_};
+ghost use mathlib.Core.List.{_∷_, _++_};
+ghost use lib.Dec.{eqb, ltb};
+ghost use lib.ListN.{take, drop};
+ghost use Rattle.answers.specs.Answers.{refusal};
+ghost use Rattle.links.specs.Links.{classOf, keyOf, rank, heldOf, holding};
+ghost use Rattle.links.specs.Sound.{isSound};
+ghost use Rattle.links.specs.Edits.{isIn, moved, dropped, addChecks, added, removed, tagRemoved, editedOf};
+use super::link::Link;
+use super::link::class_of_kind;
+use super::table::MOST;
+use super::table::Table;
+use answers::ALREADY_THERE;
+use answers::ANOTHER_CLASS;
+use answers::DONE;
+use answers::NO_LINK;
+use answers::NOT_SOUND;
+use answers::OUT_OF_RANGE;
+use answers::TABLE_FULL;
+
+// What an edit answers, how many surviving links it moved, and the table that it leaves.
 pub struct Edited {
     pub answer: u8,
     pub moved: u64,
     pub table: Table,
+}
+
+impl Edited {
+    fn refused(answer: u8, table: Table) -> Edited
+        ensures { λ r. ⌜ r ≡ record { answer = answer; moved = 0; table = table } ⌝ }
+    {
+        Edited {
+            answer: answer,
+            moved: 0,
+            table: table,
+        }
+    }
+}
+
+// How many places a link takes where the links of a tag go.
+fn places_kept(link: Link, tag: u64) -> usize
+    ensures { λ r. ⌜ r ≡ cond (not (eqb (link .tag) tag)) 1 0 ⌝ }
+{
+    let gone = link.tag as u64 == tag;
+    if gone { 0 } else { 1 }
+}
+
+// Whether a link that stays comes to another place, as a number to count with.
+fn places_moved(link: Link, tag: u64, old: usize, new: usize) -> u64
+    ensures { λ r. ⌜ r ≡ cond (not (eqb (link .tag) tag)) (cond (ltb new old) 1 0) 0 ⌝ }
+{
+    let gone = link.tag as u64 == tag;
+    if gone {
+        return 0;
+    }
+    let closer = new < old;
+    if closer { 1 } else { 0 }
+}
+
+// Whether an address has a class, and another one than a kind.
+fn clashes(class: u8, kind: u8) -> bool
+    ensures { λ r. ⌜ r ≡ not (eqb class 0) && not (eqb class (classOf kind)) ⌝ }
+{
+    if class == 0 {
+        return false;
+    }
+    class != class_of_kind(kind)
+}
+
+impl Table {
+    // Whether a link stands at the place where the search for it ended.
+    fn holds(self, link: Link, place: usize) -> bool
+        requires { ⌜ isSound (heldOf self) ≡ true ⌝ }
+        requires { ⌜ place ≡ rank keyOf (keyOf link) (heldOf self .links) ⌝ }
+        ensures { λ r. ⌜ r ≡ isIn keyOf link (heldOf self .links) ⌝ }
+    {
+        let count = self.count;
+        if count <= place {
+            return false;
+        }
+        let here = self.links[place];
+        here.key() == link.key()
+    }
+
+    // The number that refuses a new link, in the paper's order, or DONE.
+    fn judge_new(self, link: Link, place: usize) -> u8
+        requires { ⌜ isSound (heldOf self) ≡ true ⌝ }
+        requires { ⌜ place ≡ rank keyOf (keyOf link) (heldOf self .links) ⌝ }
+        ensures { λ r. ⌜ r ≡ refusal (addChecks link (heldOf self)) ⌝ }
+    {
+        if !link.in_range() {
+            return OUT_OF_RANGE;
+        }
+        if self.holds(link, place) {
+            return ALREADY_THERE;
+        }
+        let class = self.class_at(link.address as u64);
+        if clashes(class, link.kind) {
+            return ANOTHER_CLASS;
+        }
+        if MOST <= self.count {
+            return TABLE_FULL;
+        }
+        DONE
+    }
+
+    // The table with a link put in at a place: the links from there on move up by one.
+    fn with_at(self, place: usize, link: Link) -> Table
+        requires { ⌜ place ≤ self .count ⌝ }
+        requires { ⌜ self .count < 512 ⌝ }
+        ensures { λ r. ⌜ heldOf r ≡ holding (take place (heldOf self .links) ++ link ∷ drop place (heldOf self .links)) ⌝ }
+    {
+        let count = self.count;
+        let mut next = self;
+        let mut i = place;
+        while i < count {
+            let moving = self.links[i];
+            next.links[i + 1] = moving;
+            i += 1;
+        }
+        next.links[place] = link;
+        next.count = count + 1;
+        next
+    }
+
+    // The table without the link at a place: the links behind it move down by one.
+    fn without_at(self, place: usize) -> Table
+        requires { ⌜ place < self .count ⌝ }
+        requires { ⌜ self .count ≤ 512 ⌝ }
+        ensures { λ r. ⌜ heldOf r ≡ holding (take place (heldOf self .links) ++ drop (suc place) (heldOf self .links)) ⌝ }
+    {
+        let count = self.count;
+        let mut next = self;
+        let mut i = place + 1;
+        while i < count {
+            let moving = self.links[i];
+            next.links[i - 1] = moving;
+            i += 1;
+        }
+        next.count = count - 1;
+        next
+    }
+
+    // The table without the links of a tag. Each link is stored at the next free place, and only one that stays takes it.
+    fn without_tag(self, tag: u64) -> Edited
+        requires { ⌜ isSound (heldOf self) ≡ true ⌝ }
+        ensures { λ r. ⌜ editedOf r ≡ record { answer = 0; count = moved keyOf (heldOf self .links) (dropped tag (heldOf self .links)); leaves = holding (dropped tag (heldOf self .links)) } ⌝ }
+    {
+        let count = self.count;
+        let mut next = self;
+        let mut free: usize = 0;
+        let mut moved: u64 = 0;
+        let mut i: usize = 0;
+        while i < count {
+            let link = self.links[i];
+            next.links[free] = link;
+            moved += places_moved(link, tag, i, free);
+            free += places_kept(link, tag);
+            i += 1;
+        }
+        next.count = free;
+        Edited {
+            answer: DONE,
+            moved: moved,
+            table: next,
+        }
+    }
+
+    // Adds a link; refused by 12, 1, 4, 8, 7, in this order.
+    pub fn add(self, link: Link) -> Edited
+        ensures { λ r. ⌜ editedOf r ≡ added link (heldOf self) ⌝ }
+    {
+        if !self.is_sound() {
+            return Edited::refused(NOT_SOUND, self);
+        }
+        let place = self.below(link.key());
+        let answer = self.judge_new(link, place);
+        if answer != DONE {
+            return Edited::refused(answer, self);
+        }
+        let table = self.with_at(place, link);
+        Edited {
+            answer: DONE,
+            moved: (self.count - place) as u64,
+            table: table,
+        }
+    }
+
+    // Removes a link; refused by 12, 5, in this order.
+    pub fn remove(self, link: Link) -> Edited
+        ensures { λ r. ⌜ editedOf r ≡ removed link (heldOf self) ⌝ }
+    {
+        if !self.is_sound() {
+            return Edited::refused(NOT_SOUND, self);
+        }
+        let place = self.below(link.key());
+        if !self.holds(link, place) {
+            return Edited::refused(NO_LINK, self);
+        }
+        let table = self.without_at(place);
+        Edited {
+            answer: DONE,
+            moved: (self.count - 1 - place) as u64,
+            table: table,
+        }
+    }
+
+    // Removes all links of a tag; refused by 12. A tag that no link has removes nothing.
+    pub fn remove_tag(self, tag: u64) -> Edited
+        ensures { λ r. ⌜ editedOf r ≡ tagRemoved tag (heldOf self) ⌝ }
+    {
+        if !self.is_sound() {
+            return Edited::refused(NOT_SOUND, self);
+        }
+        self.without_tag(tag)
+    }
 }

@@ -11,7 +11,7 @@ use Rattle.links.specs.Links.{keyOf, rank, heldOf}
 use Rattle.links.specs.Sound.{nothing, isSound}
 use Rattle.links.proofs.Order.{rank-more, rank-stop, rank-end}
 use Rattle.links.proofs.Sound.{sound-reads}
-use Rattle.links.proofs.Stores.{long, held-length}
+use Rattle.links.proofs.Stores.{long, few, many}
 use Rattle.links.proofs.table.Table.below.Statement.{statement}
 use Rattle.links.proofs.table.Table.below.Tie as tie
 
@@ -25,20 +25,15 @@ abbrev μ-loop : tie.MeasureT-loop
 loop-holds : tie.Need-loop-holds Inv-loop μ-loop
 loop-holds c = (omega arith, omega arith)
 
--- a sound table has at most 512 links, and as many as its count says
-few : (c : tie.Start Inv-loop μ-loop) → c .args .t1 .count ≤ 512
-few c = sound-reads (heldOf (c .args .t1)) (c .pre) .0
-
-many : (c : tie.Start Inv-loop μ-loop) → length (heldOf (c .args .t1) .links) ≡ c .args .t1 .count
-many c =
-    let whole : length (c .args .t1 .links) ≡ 512 = search (long, needs) in
-    held-length (c .args .t1 .links) 512 whole (c .args .t1 .count) (few c)
+-- as many links are held as the count says
+full : (c : tie.Start Inv-loop μ-loop) → length (heldOf (c .args .t1) .links) ≡ c .args .t1 .count
+full c = many (c .args .t1) (search (long, needs)) (few (c .args .t1) (c .pre))
 
 mul-here : tie.Need-mul-here Inv-loop μ-loop
-mul-here c = omega (arith, few (c .before .before))
+mul-here c = omega (arith, few _ (c .before .before .pre))
 
 element-copy-out-here : tie.Need-element-copy-out-here Inv-loop μ-loop
-element-copy-out-here c = omega (arith, few (c .before .before))
+element-copy-out-here c = omega (arith, few _ (c .before .before .pre))
 
 -- the key that was computed is that of the link held at this place
 here : (c : tie.After-key Inv-loop μ-loop) → c .key .result ≡ keyOf (getD (heldOf (c .before .before .before .before .args .t1) .links) (c .before .before .before .loop .i) nothing)
@@ -51,12 +46,12 @@ returns c =
     let start = c .before .before .before .before .before in
     rank-stop keyOf (start .args .key) (heldOf (start .args .t1) .links) nothing (c .before .before .before .before .loop .i) _
     (sound-reads (heldOf (start .args .t1)) (start .pre) .1 .ascends)
-    (omega (arith, many start))
+    (omega (arith, full start))
     (subst (λ (k : ℕ). start .args .key ≤ k) (here (c .before)) (c .if1 .taken))
     (c .before .before .before .before .loop .inv .1)
 
 add-i : tie.Need-add-i Inv-loop μ-loop
-add-i c = omega (arith, few (c .before .before .before .before .before))
+add-i c = omega (arith, few _ (c .before .before .before .before .before .pre))
 
 loop-less : tie.Need-loop-less Inv-loop μ-loop
 loop-less c = omega arith
@@ -66,7 +61,7 @@ loop-again c =
     let start = c .before .before .before .before .before in (
       omega arith,
       rank-more keyOf (start .args .key) (heldOf (start .args .t1) .links) nothing (c .before .before .before .before .loop .i) _
-          (omega (arith, many start))
+          (omega (arith, full start))
           (subst (λ (k : ℕ). k < start .args .key) (here (c .before)) (c .if1 .left))
           (c .before .before .before .before .loop .inv .1),
     )
@@ -74,7 +69,7 @@ loop-again c =
 returns-2 : tie.Need-returns-2 Inv-loop μ-loop
 returns-2 c =
     let start = c .before .before in
-    rank-end keyOf (start .args .key) (heldOf (start .args .t1) .links) (c .before .loop .i) _ (omega (arith, many start)) (c .before .loop .inv .1)
+    rank-end keyOf (start .args .key) (heldOf (start .args .t1) .links) (c .before .loop .i) _ (omega (arith, full start)) (c .before .loop .inv .1)
 
 pub below-spec : {M : Type 1} → statement M
 below-spec =

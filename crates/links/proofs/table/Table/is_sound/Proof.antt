@@ -11,7 +11,7 @@ use Rattle.links.specs.declared.link.Link.{Link}
 use Rattle.links.specs.Links.{heldOf}
 use Rattle.links.specs.Sound.{nothing, mayFollow, inOrder}
 use Rattle.links.proofs.Sound.{too-many, not-too-many, order-more, order-fails, order-end}
-use Rattle.links.proofs.Stores.{long, held-length}
+use Rattle.links.proofs.Stores.{long, many}
 use Rattle.links.proofs.table.Table.is_sound.Statement.{statement}
 use Rattle.links.proofs.table.Table.is_sound.Tie as tie
 
@@ -28,10 +28,8 @@ loop-holds : tie.Need-loop-holds Inv-loop μ-loop
 loop-holds c = (omega arith, refl)
 
 -- as many links are held as the count says
-many : (c : tie.Else1 Inv-loop μ-loop) → length (heldOf (c .before .args .t1) .links) ≡ c .before .args .t1 .count
-many c =
-    let whole : length (c .before .args .t1 .links) ≡ 512 = search (long, needs) in
-    held-length (c .before .args .t1 .links) 512 whole (c .before .args .t1 .count) (c .if1 .left)
+full : (c : tie.Else1 Inv-loop μ-loop) → length (heldOf (c .before .args .t1) .links) ≡ c .before .args .t1 .count
+full c = many (c .before .args .t1) (search (long, needs)) (c .if1 .left)
 
 mul-next : tie.Need-mul-next Inv-loop μ-loop
 mul-next c = omega arith
@@ -52,7 +50,7 @@ returns-2 c =
     let at = c .before .before .before .before in
     let t = at .before .before .args .t1 in
     sym (not-too-many (heldOf t) (at .before .if1 .left)
-    ∙ order-fails (at .loop .last) (heldOf t .links) (at .loop .i) (omega (arith, many (at .before)))
+    ∙ order-fails (at .loop .last) (heldOf t .links) (at .loop .i) (omega (arith, full (at .before)))
     (sym (here (c .before)) ∙ not-true _ (c .if2 .taken)) (at .loop .inv .1))
 
 add-i : tie.Need-add-i Inv-loop μ-loop
@@ -67,7 +65,7 @@ loop-again c =
     let t = at .before .before .args .t1 in (
       omega arith,
       ap (λ (l : Link). inOrder l (drop (at .loop .i + 1) (heldOf t .links))) (sym (getD-take (t .count) (t .links) (at .loop .i) nothing (c .before .before .before .loop-test .taken)))
-          ∙ order-more (at .loop .last) (heldOf t .links) (at .loop .i) (omega (arith, many (at .before)))
+          ∙ order-more (at .loop .last) (heldOf t .links) (at .loop .i) (omega (arith, full (at .before)))
           (sym (here (c .before)) ∙ not-false _ (c .if2 .left)) (at .loop .inv .1),
     )
 
@@ -76,7 +74,7 @@ returns-3 c =
     let at = c .before in
     let t = at .before .before .args .t1 in
     sym (not-too-many (heldOf t) (at .before .if1 .left)
-    ∙ order-end (at .loop .last) (heldOf t .links) (at .loop .i) (omega (arith, many (at .before))) (at .loop .inv .1))
+    ∙ order-end (at .loop .last) (heldOf t .links) (at .loop .i) (omega (arith, full (at .before))) (at .loop .inv .1))
 
 pub is-sound-spec : {M : Type 1} → statement M
 is-sound-spec =
