@@ -3,7 +3,7 @@
 use Prim.Native.Nat.{ℕ, zero, suc, _+_, _≤_, _<_}
 use native.Mathlib.Numerals.{add-one}
 use native.Mathlib.Omega.{arith}
-use mathlib.Core.Path.{_≡_, refl, sym, ap, _∙_}
+use mathlib.Core.Path.{_≡_, refl, sym, ap, _∙_, fun-ext}
 use mathlib.Core.Bool.{Bool, true, false, not, _&&_}
 use mathlib.Core.List.{List, [], _∷_}
 use mathlib.Core.Option.{Option, none, some, Option·some-injective, Option·none-ne-some}
@@ -15,6 +15,28 @@ use Rattle.laws.specs.Decides.{Decides}
 use Rattle.laws.specs.Fills.{tabulate}
 use Rattle.laws.specs.Every.{every, distinct, withNext, there}
 use Rattle.laws.proofs.Choices.{both, both-left, both-right}
+
+module _ {A : Type 0} where
+  -- tests that agree, agree on lists
+  pub every-same : (p q : A → Bool) → ((x : A) → p x ≡ q x) → (xs : List A) → every p xs ≡ every q xs
+  every-same p q same xs = ap (λ (r : A → Bool). every r xs) (fun-ext same)
+
+  pub every-true : (p : A → Bool) → ((x : A) → p x ≡ true) → (xs : List A) → every p xs ≡ true
+  unfolding every
+  every-true p all [] = refl
+  every-true p all (x ∷ xs) = both (p x) (every p xs) (all x) (every-true p all xs)
+
+  -- two tests at once
+  pub every-and : (p q : A → Bool) (xs : List A) → every (λ x. p x && q x) xs ≡ every p xs && every q xs
+  unfolding every
+  every-and p q [] = refl
+  every-and p q (x ∷ xs) = go (p x) (q x) (every p xs) (every q xs) (every-and p q xs)
+    where
+      go : (a b c d : Bool) {e : Bool} → e ≡ c && d → (a && b) && e ≡ (a && c) && (b && d)
+      go false b c d h = refl
+      go true false false d h = refl
+      go true false true d h = refl
+      go true true c d h = h
 
 module _ {A : Type 0} (p : A → Bool) where
   every-reads : (xs : List A) (d : A) → every p xs ≡ true → (i : ℕ) → i < length xs → p (getD xs i d) ≡ true

@@ -1,4 +1,4 @@
--- Document 01, "Sound": first to be read, clause by clause, then as a test; proofs/Soundness shows that the test decides it.
+-- Document 01, "Sound": first to be read, clause by clause, then as a test; proofs/Decides shows that the test decides it.
 -- Assumes nothing.
 use Prim.Native.Nat.{ℕ, _<_, _≤_}
 use mathlib.Core.Path.{_≡_}

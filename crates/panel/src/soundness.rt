@@ -36,15 +36,15 @@ impl Panel {
     fn has_sound_seats(self) -> bool
         ensures { λ r. ⌜ r ≡ soundSeats (modelOf self) ⌝ }
     {
-        let mut taken = Strip::empty();
+        let mut met = Strip::empty();
         for tag in 0..64 {
             if self.present.has(tag as u64) {
                 let terminal = self.terminals[tag];
                 let blind = self.blinds[tag];
-                if !may_stand(taken, terminal, blind) {
+                if !may_stand(met, terminal, blind) {
                     return false;
                 }
-                taken = taken.with(terminal);
+                met = met.with(terminal);
             }
         }
         true
