@@ -18,6 +18,7 @@ impl Blind {
     pub fn fresh(params: Params) -> Blind
         ensures { λ r. ⌜ r ≡ freshOf params ⌝ }
     {
+        let pause = params.pause();
         Blind {
             params,
             flags: Flags {
@@ -29,7 +30,7 @@ impl Blind {
             position: 0,
             valid: false,
             last: Last::Either,
-            motion: Motion::Off(params.pause()),
+            motion: Motion::Off(pause),
         }
     }
 
@@ -70,8 +71,9 @@ impl Blind {
                 ..self
             }
         } else {
+            let pause = self.params.pause();
             Blind {
-                motion: Motion::Waits(self.params.pause(), run),
+                motion: Motion::Waits(pause, run),
                 ..self
             }
         }
@@ -107,8 +109,9 @@ impl Blind {
     pub(crate) fn motor_off(self) -> Blind
         ensures { λ r. ⌜ r ≡ motorOff self ⌝ }
     {
+        let rest = self.params.pause();
         Blind {
-            motion: Motion::Off(self.params.pause()),
+            motion: Motion::Off(rest),
             ..self
         }
     }

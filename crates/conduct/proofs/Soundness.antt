@@ -31,7 +31,8 @@ use Rattle.rules.specs.declared.Input.{Input}
 use Rattle.rules.specs.Inputs.{fullRun, step, mud, steps, ssud, target, towards, aimedBetween, aimed, followed, sapbp, acted}
 use Rattle.rules.specs.Rules.{dutyOf, sameDuty, obeyed, ruled, flagged, isFree, commanded, heeded}
 use Rattle.rules.specs.Edits.{rewritten}
-use Rattle.conduct.specs.Courses.{Event, telegram, passes, after}
+use Rattle.rules.specs.Telegrams.{commandOf, inputOf}
+use Rattle.conduct.specs.Courses.{ByteOf, OfClass, Event, telegram, passes, happened, after}
 
 -- A run that may be ordered: of a sound length, and whole.
 pub record Orderable (p : Params) (run : Run) : Type 0 where
@@ -123,3 +124,192 @@ stopped-sound b s = go (b .motion) (s .motion)
     go (Motion.Off rest) h = s
     go (Motion.Waits rest waiting) h = new-motion (Motion.Off rest) b s (h .rest-most)
     go (Motion.Runs running) h = motor-off-sound b s
+
+-- ---- one millisecond
+
+beside-sound : (d : Direction) (lowest position : ℕ) → position ≤ lowest → beside d lowest position ≤ lowest
+beside-sound Direction.Up lowest position h = omega arith
+beside-sound Direction.Down lowest position h = omega arith
+
+moved-sound : (d : Direction) (b : Blind) → Sound b → Sound (moved d b)
+unfolding moved
+moved-sound d b s = record { params = s .params; position = beside-sound d (bottom (b .params)) (b .position) (s .position); motion = s .motion }
+
+end-sound : (d : Direction) (p : Params) → endOf d p ≤ bottom p
+end-sound Direction.Up p = omega arith
+end-sound Direction.Down p = omega arith
+
+arrived-sound : (goal : Goal) (d : Direction) (b : Blind) → Sound b → Sound (arrived goal d b)
+unfolding arrived
+arrived-sound Goal.Full d b s = record { params = s .params; position = end-sound d (b .params); motion = s .motion }
+arrived-sound Goal.Step d b s = s
+arrived-sound Goal.Position d b s = s
+
+ran-sound : (run : Run) (b : Blind) → Sound b → SoundRunning (b .params) (b .last) run → Sound (ran run b)
+unfolding ran shortened moved
+ran-sound run b s h =
+    cond-has Sound (eqb (run .length - 1) 0) _ _
+    (λ e. arrived-sound (run .goal) (run .direction) _ (motor-off-sound _ (moved-sound (run .direction) b s)))
+    (λ e.
+    let left : run .length - 1 ≡ 0 → ⊥ = eqb-false (run .length - 1) 0 e in
+    let most : run .length ≤ longest (b .params) (run .goal) = h .length .most in
+    new-motion (Motion.Runs (shortened run)) (moved (run .direction) b) (moved-sound (run .direction) b s)
+    (record { length = record { least = omega arith; most = omega arith }; own = h .own }))
+
+waited-sound : (rest : ℕ) (run : Run) (b : Blind) → Sound b → SoundWait (b .params) (b .last) rest run → Sound (waited rest run b)
+unfolding waited
+waited-sound rest run b s h =
+    cond-has Sound (eqb rest 1) _ _
+    (λ e. started-sound run b s (h .length))
+    (λ e.
+    let more : rest ≡ 1 → ⊥ = eqb-false rest 1 e in
+    let above : 0 < rest = h .rest-above in
+    let most : rest ≤ b .params .rpt = h .rest-most in
+    new-motion (Motion.Waits (rest - 1) run) b s
+    (record { rest-above = omega arith; rest-most = omega arith; length = h .length; whole = h .whole; other = h .other }))
+
+pub millisecond-sound : (b : Blind) → Sound b → Sound (millisecond b)
+unfolding millisecond millisecondAt
+millisecond-sound b s = go (b .motion) (s .motion)
+  where
+    go : (motion : Motion) → SoundMotion (b .params) (b .last) motion → Sound (millisecondAt motion b)
+    go (Motion.Off rest) h = new-motion (Motion.Off (rest - 1)) b s (omega arith)
+    go (Motion.Waits rest run) h = waited-sound rest run b s h
+    go (Motion.Runs run) h = ran-sound run b s h
+
+pub milliseconds-sound : (dt : ℕ) (b : Blind) → Sound b → Sound (milliseconds dt b)
+unfolding milliseconds
+milliseconds-sound zero b s = s
+milliseconds-sound (suc dt) b s = millisecond-sound _ (milliseconds-sound dt b s)
+
+-- ---- what the inputs order
+
+full-run-orderable : (d : Direction) (p : Params) → SoundParams p → Orderable p (fullRun d p)
+unfolding fullTime
+full-run-orderable d p s = record { length = record { least = omega arith; most = omega arith }; whole = refl }
+
+step-orderable : (d : Direction) (p : Params) → SoundParams p → Orderable p (step d p)
+step-orderable d p s = record { length = record { least = omega arith; most = omega arith }; whole = refl }
+
+mud-sound : (d : Direction) (b : Blind) → Sound b → Sound (mud d b)
+unfolding mud
+mud-sound d b s = ordered-sound (fullRun d (b .params)) b s (full-run-orderable d (b .params) (s .params))
+
+ssud-sound : (d : Direction) (b : Blind) → Sound b → Sound (ssud d b)
+unfolding ssud
+ssud-sound d b s =
+    cond-has Sound (steps (b .motion)) _ _
+    (λ e. ordered-sound (step d (b .params)) b s (step-orderable d (b .params) (s .params)))
+    (λ e. stopped-sound b s)
+
+-- the target of a byte lies between the ends
+pub target-sound : (v : ℕ) (p : Params) → v ≤ 255 → target v p ≤ bottom p
+unfolding target
+target-sound v p h =
+    let most : v * bottom p ≤ 255 * bottom p = mul-le-mul-right (bottom p) h in
+    omega arith
+
+-- what an aim asks for may be ordered
+AimSound : Params → Aim → Type 0
+AimSound p Aim.Dropped = Unit {0}
+AimSound p Aim.Met = Unit {0}
+AimSound p (Aim.Go run) = Orderable p run
+
+towards-sound : (p : Params) (aim position : ℕ) → aim ≤ fullTime p → position ≤ fullTime p → AimSound p (towards aim position)
+unfolding towards AimSound
+towards-sound p aim position h k =
+    cond-has (AimSound p) (ltb position aim) _ _
+    (λ e.
+    let below : position < aim = ltb-true position aim e in
+    record { length = record { least = omega arith; most = omega arith }; whole = tt })
+    (λ e.
+    cond-has (AimSound p) (ltb aim position) _ _
+    (λ f.
+    let below : aim < position = ltb-true aim position f in
+    record { length = record { least = omega arith; most = omega arith }; whole = tt })
+    (λ f. tt))
+
+aimed-sound : (v : ℕ) (b : Blind) → v ≤ 255 → Sound b → AimSound (b .params) (aimed v b)
+unfolding aimed aimedBetween AimSound bottom fullTime
+aimed-sound v b h s =
+    cond-has (AimSound (b .params)) (eqb v 0) _ _
+    (λ e. full-run-orderable Direction.Up (b .params) (s .params))
+    (λ e.
+    cond-has (AimSound (b .params)) (eqb v 255) _ _
+    (λ f. full-run-orderable Direction.Down (b .params) (s .params))
+    (λ f.
+    cond-has (AimSound (b .params)) (b .valid) _ _
+    (λ g. towards-sound (b .params) (target v (b .params)) (b .position) (target-sound v (b .params) h) (s .position))
+    (λ g. tt)))
+
+sapbp-sound : (v : ℕ) (b : Blind) → v ≤ 255 → Sound b → Sound (sapbp v b)
+unfolding sapbp followed AimSound
+sapbp-sound v b h s = go (aimed v b) (aimed-sound v b h s)
+  where
+    go : (aim : Aim) → AimSound (b .params) aim → Sound (followed aim b)
+    go Aim.Dropped o = s
+    go Aim.Met o = stopped-sound b s
+    go (Aim.Go run) o = ordered-sound run b s o
+
+acted-sound : (command : Command) (b : Blind) → ByteOf command → Sound b → Sound (acted command b)
+unfolding acted
+acted-sound Command.Stop b h s = stopped-sound b s
+acted-sound (Command.Move d) b h s = mud-sound d b s
+acted-sound (Command.Step d) b h s = ssud-sound d b s
+acted-sound (Command.Position v) b h s = sapbp-sound v b h s
+
+-- ---- who rules, and telegrams
+
+obeyed-sound : (duty : Duty) (b : Blind) → Sound b → Sound (obeyed duty b)
+unfolding obeyed
+obeyed-sound Duty.Free b s = stopped-sound b s
+obeyed-sound Duty.Up b s = mud-sound Direction.Up b s
+obeyed-sound Duty.Down b s = mud-sound Direction.Down b s
+obeyed-sound Duty.Hold b s = stopped-sound b s
+
+ruled-sound : (before : Duty) (b : Blind) → Sound b → Sound (ruled before b)
+unfolding ruled
+ruled-sound before b s = cond-has Sound (sameDuty before (dutyOf b)) _ _ (λ e. s) (λ e. obeyed-sound (dutyOf b) b s)
+
+flagged-sound : (flags : Flags) (b : Blind) → Sound b → Sound (flagged flags b)
+unfolding flagged
+flagged-sound flags b s = ruled-sound (dutyOf b) (withFlags flags b) (flags-kept flags b s)
+
+pub heeded-sound : (input : Input) (b : Blind) → OfClass input → Sound b → Sound (heeded input b)
+unfolding heeded commanded
+heeded-sound (Input.Wind on) b h s = flagged-sound _ b s
+heeded-sound (Input.Rain on) b h s = flagged-sound _ b s
+heeded-sound (Input.Frost on) b h s = flagged-sound _ b s
+heeded-sound (Input.Force forced) b h s = flagged-sound _ b s
+heeded-sound (Input.Command command) b h s =
+    cond-has Sound (isFree (dutyOf b)) _ _ (λ e. acted-sound command b h s) (λ e. s)
+
+-- every kind with every value that a telegram can have
+pub input-of-class : (kind value : ℕ) → value ≤ 255 → OfClass (inputOf kind value)
+unfolding inputOf commandOf
+input-of-class kind value h =
+    cond-has OfClass (eqb kind 0) _ _ (λ e. tt)
+    (λ e. cond-has OfClass (eqb kind 1) _ _ (λ e. tt)
+    (λ e. cond-has OfClass (eqb kind 2) _ _ (λ e. tt)
+    (λ e. cond-has OfClass (eqb kind 3) _ _ (λ e. tt)
+    (λ e. cond-has ByteOf (eqb kind 4) _ _ (λ e. tt)
+    (λ e. cond-has ByteOf (eqb kind 5) _ _ (λ e. tt)
+    (λ e. cond-has ByteOf (eqb kind 6) _ _ (λ e. tt)
+    (λ e. h)))))))
+
+-- ---- the write of parameters
+
+pub rewritten-sound : (p : Params) (b : Blind) → SoundParams p → Sound (rewritten p b)
+unfolding rewritten bottom
+rewritten-sound p b s = ruled-sound (dutyOf b) _ (record { params = s; position = omega arith; motion = omega arith })
+
+-- ---- a whole course
+
+pub happened-sound : (event : Event) (b : Blind) → Sound b → Sound (happened event b)
+happened-sound (telegram input of-class) b s = heeded-sound input b of-class s
+happened-sound passes b s = millisecond-sound b s
+
+pub after-sound : (course : List Event) (b : Blind) → Sound b → Sound (after course b)
+unfolding after
+after-sound [] b s = s
+after-sound (event ∷ course) b s = after-sound course (happened event b) (happened-sound event b s)

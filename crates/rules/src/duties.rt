@@ -96,12 +96,13 @@ pub fn rewrite(blind: Blind, params: Params) -> Blind
     ensures { λ r. ⌜ r ≡ rewritten params blind ⌝ }
 {
     let before = duty(blind);
+    let pause = params.pause();
     ruled(
         Blind {
             params,
             position: 0,
             valid: false,
-            motion: Motion::Off(params.pause()),
+            motion: Motion::Off(pause),
             ..blind
         },
         before,
