@@ -2,3 +2,6 @@ pub mod Seats
 pub mod Strips
 pub mod Walk
 pub mod Decides
+pub mod Checks
+pub mod Kept
+pub mod Outcomes
