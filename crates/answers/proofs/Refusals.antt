@@ -51,6 +51,6 @@ module _ {A : Type 0} (number : ℕ) (before : A) (count : ℕ) (after : A) wher
   answers = go (eqb number 0) refl
     where
       go : (b : Bool) → eqb number 0 ≡ b
-         → cond {A = Outcome A} b (record { answer = 0; count = count; leaves = after }) (record { answer = number; count = 0; leaves = before }) .answer ≡ number
+          → cond {A = Outcome A} b (record { answer = 0; count = count; leaves = after }) (record { answer = number; count = 0; leaves = before }) .answer ≡ number
       go true e = sym (eqb-true number 0 e)
       go false e = refl

@@ -1,17 +1,17 @@
 -- What the calls of a table come to, check by check: each law takes what the code found out and gives the outcome.
 -- Assumes nothing.
-use Prim.Native.Nat.{ℕ, zero, suc, _+_, _*_, _-_, _≤_, _<_}
+use Prim.Native.Nat.{ℕ, zero, _+_, _*_, _-_, _≤_, _<_}
 use native.Mathlib.Omega.{arith}
-use mathlib.Core.Path.{_≡_, refl, sym, ap, ap₂, _∙_}
-use mathlib.Core.Bool.{Bool, true, false, not, _&&_}
+use mathlib.Core.Path.{_≡_, sym, ap, ap₂, _∙_}
+use mathlib.Core.Bool.{true, false, not}
 use mathlib.Core.List.{List, [], _∷_}
 use lib.ListN.{length}
 use lib.Dec.{eqb, leb}
 use borrow.Author.Tests.{eq-eqb, ne-eqb, le-leb, lt-leb, leb-false, not-false}
-use Rattle.answers.specs.Answers.{Check, refusal, Outcome, answered}
+use Rattle.answers.specs.Answers.{Check, refusal}
 use Rattle.answers.proofs.Refusals.{refused-by, passed-by, all-passed, none-left, done, refused, refused-as}
 use Rattle.links.specs.declared.link.Link.{Link}
-use Rattle.links.specs.Links.{rank, keyOf, classOf, inRange, Held, holding, linksTo, startOf, addressClass}
+use Rattle.links.specs.Links.{rank, keyOf, inRange, Held, holding, linksTo, startOf, addressClass}
 use Rattle.links.specs.Sound.{most, isSound}
 use Rattle.links.specs.Edits.{isIn, inserted, deleted, moved, dropped, otherClass, noLinkTo, unsound, found, classed, addChecks, added, removed, tagRemoved}
 use Rattle.links.proofs.Sound.{Fine, sound-reads}

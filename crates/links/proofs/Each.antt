@@ -1,6 +1,6 @@
 -- What holds of each element of a list, and the elements that pass a test. All by recursion on the list.
 -- Assumes nothing.
-use Prim.Native.Nat.{ℕ, zero, suc, _+_, _≤_, _<_}
+use Prim.Native.Nat.{ℕ, zero, suc, _≤_, _<_}
 use native.Mathlib.Omega.{arith}
 use mathlib.Core.Path.{_≡_, refl, sym, ap, _∙_, subst, subst₂}
 use mathlib.Core.Bool.{Bool, true, false, cond, true≢false}
@@ -29,17 +29,9 @@ module _ {A : Type 0} {P : A → Type 0} where
   each-of [] d f = none
   each-of (x ∷ xs) d f = more (f 0 (omega arith)) (each-of xs d (λ i h. f (suc i) (omega arith)))
 
-  pub each-left : (xs ys : List A) → Each P (xs ++ ys) → Each P xs
-  each-left [] ys e = none
-  each-left (x ∷ xs) ys e = more (first e) (each-left xs ys (rest e))
-
   pub each-right : (xs ys : List A) → Each P (xs ++ ys) → Each P ys
   each-right [] ys e = e
   each-right (x ∷ xs) ys e = each-right xs ys (rest e)
-
-  pub each-join : (xs ys : List A) → Each P xs → Each P ys → Each P (xs ++ ys)
-  each-join [] ys e f = f
-  each-join (x ∷ xs) ys e f = more (first e) (each-join xs ys (rest e) f)
 
   pub each-kept : (p : A → Bool) (xs : List A) → Each P xs → Each P (kept p xs)
   unfolding kept
@@ -91,6 +83,11 @@ module _ {A : Type 0} (R : A → A → Type 0) where
   pairs-right [] ys r = r
   pairs-right (x ∷ xs) ys r = pairs-right xs ys (r .1)
 
+  -- what stands before an element
+  pub pairs-before : (xs : List A) (y : A) (ys : List A) → Pairs R (xs ++ y ∷ ys) → Each (λ x. R x y) xs
+  pairs-before [] y ys r = none
+  pairs-before (x ∷ xs) y ys r = more (first (each-right xs (y ∷ ys) (r .0))) (pairs-before xs y ys (r .1))
+
   pub pairs-kept : (p : A → Bool) (xs : List A) → Pairs R xs → Pairs R (kept p xs)
   unfolding kept
   pairs-kept p [] r = tt
@@ -109,7 +106,11 @@ module _ {A : Type 0} (R : A → A → Type 0) where
       subst₂ (λ (u v : A). Pairs R (u ∷ v ∷ l)) two one (more (back a b (first (r .0))) (r .1 .0), (rest (r .0), r .1 .1))
   pairs-perm back (List·Permᴰ·trans p q) r = pairs-perm back q (pairs-perm back p r)
 
-module _ {A : Type 0} {R S : A → A → Type 0} where
+module _ {A : Type 0} (R S : A → A → Type 0) where
+  pub pairs-both : (xs : List A) → Pairs R xs → Pairs S xs → Pairs (λ x y. R x y × S x y) xs
+  pairs-both [] r s = tt
+  pairs-both (x ∷ xs) r s = (each-both (r .0) (s .0), pairs-both xs (r .1) (s .1))
+
   pub pairs-map : (xs : List A) → ((x y : A) → R x y → S x y) → Pairs R xs → Pairs S xs
   pairs-map [] f r = tt
   pairs-map (x ∷ xs) f r = (each-map (f x) (r .0), pairs-map xs f (r .1))
@@ -123,15 +124,6 @@ module _ {A : Type 0} (p : A → Bool) where
   pub kept-not : (x : A) (xs : List A) → p x ≡ false → kept p (x ∷ xs) ≡ kept p xs
   unfolding kept
   kept-not x xs e = rw e
-
-  pub kept-append : (xs ys : List A) → kept p (xs ++ ys) ≡ kept p xs ++ kept p ys
-  unfolding kept
-  kept-append [] ys = refl
-  kept-append (x ∷ xs) ys = go (p x) (kept-append xs ys)
-    where
-      go : (b : Bool) → kept p (xs ++ ys) ≡ kept p xs ++ kept p ys → cond b (x ∷ kept p (xs ++ ys)) (kept p (xs ++ ys)) ≡ cond b (x ∷ kept p xs) (kept p xs) ++ kept p ys
-      go true e = ap (λ (l : List A). x ∷ l) e
-      go false e = e
 
   -- everything passes, or nothing does
   pub kept-all : (xs : List A) → Each (λ x. p x ≡ true) xs → kept p xs ≡ xs

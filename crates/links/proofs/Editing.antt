@@ -1,9 +1,9 @@
 -- What an accepted edit leaves, from the place where the search for its link ended; and that it is sound, whatever was edited.
 -- Assumes nothing.
-use Prim.Native.Nat.{ℕ, suc, _+_, _-_, _≤_, _<_}
+use Prim.Native.Nat.{ℕ, suc, _-_, _≤_, _<_}
 use native.Mathlib.Omega.{arith}
-use mathlib.Core.Path.{_≡_, refl, sym, ap, ap₂, _∙_, subst}
-use mathlib.Core.Bool.{Bool, true, false, not, _&&_}
+use mathlib.Core.Path.{_≡_, refl, sym, ap, ap₂, _∙_}
+use mathlib.Core.Bool.{Bool, true, false, not}
 use mathlib.Core.List.{List, [], _∷_, _++_}
 use lib.ListN.{length, getD, take, drop}
 use borrow.Author.Tests.{not-false}
@@ -60,7 +60,6 @@ module _ (h : Held) (l : Link) (sound : isSound h ≡ true) (full : length (h .l
 
 -- ---- an accepted edit leaves a sound table, with the list that the definitions say
 
-
 -- the links that are left are those that pass a test
 deleted-kept : {A : Type 0} (key : A → ℕ) (a : A) (xs : List A) → deleted key a xs ≡ kept (others key a) xs
 unfolding deleted
@@ -86,9 +85,9 @@ module _ (h : Held) (full : length (h .links) ≡ h .count) where
       let fine : Fine (h .links) = sound-reads h (passed .0) .1 in
       let left : added l h .leaves ≡ holding (inserted keyOf l (h .links)) = ap (λ (o : Outcome Held). o .leaves) (added-done h l (passed .0) (sym (passed .1))) in
       let new : Fine (inserted keyOf l (h .links)) =
-            fine-inserted l (h .links) fine (range-reads l (ok .range)) (ok .new) (agrees-all l (h .links) (fine .agrees) (ok .one-class)) in
-      ( ap isSound left ∙ sound-holds (holding (inserted keyOf l (h .links))) (omega (arith, ok .room, inserted-length keyOf l (h .links))) new
-      , left
+      fine-inserted l (h .links) fine (range-reads l (ok .range)) (ok .new) (agrees-all l (h .links) (fine .agrees) (ok .one-class)) in (
+        ap isSound left ∙ sound-holds (holding (inserted keyOf l (h .links))) (omega (arith, ok .room, inserted-length keyOf l (h .links))) new,
+        left,
       )
 
   -- some links of a sound table are a sound table

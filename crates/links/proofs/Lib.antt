@@ -8,3 +8,6 @@ pub mod Stores
 pub mod Calls
 pub mod Sweep
 pub mod Editing
+pub mod Afresh
+pub mod Untouched
+pub mod Outcomes

@@ -1,19 +1,19 @@
 -- Lists that ascend by a key: how many elements stand below a key says where one is, where a new one goes, and what a removal leaves.
 -- All by recursion on the list, with a case on the first element. Assumes nothing.
-use Prim.Native.Nat.{ℕ, zero, suc, _+_, _-_, _≤_, _<_}
+use Prim.Native.Nat.{ℕ, suc, _+_, _≤_, _<_}
 use native.Mathlib.Omega.{arith}
 use native.Mathlib.Decide.{decLt}
 use native.Mathlib.Numerals.{add-one}
-use mathlib.Core.Path.{_≡_, refl, sym, ap, ap₂, _∙_, subst}
+use mathlib.Core.Path.{_≡_, refl, sym, ap, _∙_, subst}
 use mathlib.Core.Bool.{Bool, true, false, cond, not, _&&_, _||_, true≢false, and-eq-true-iff}
-use mathlib.Core.List.{List, [], _∷_, _++_, List·Permᴰ, List·Permᴰ·nil, List·Permᴰ·cons, List·Permᴰ·swap, List·Permᴰ·trans, Permᴰ·refl}
+use mathlib.Core.List.{List, [], _∷_, _++_, List·Permᴰ, List·Permᴰ·cons, List·Permᴰ·swap, List·Permᴰ·trans, Permᴰ·refl}
 use lib.ListN.{length, getD, take, drop}
 use lib.Seq.{drop-cons}
 use lib.Dec.{eqb, ltb, leb·suc-suc}
-use borrow.Author.Tests.{lt-ltb, le-ltb, ltb-true, ltb-false, eq-eqb, ne-eqb, eqb-true, eqb-false}
+use borrow.Author.Tests.{lt-ltb, le-ltb, ltb-true, eq-eqb, ne-eqb, eqb-true, eqb-false}
 use Rattle.links.specs.Links.{kept, rank}
 use Rattle.links.specs.Edits.{isIn, inserted, deleted}
-use Rattle.links.proofs.Each.{Each, none, more, first, rest, Pairs, pairs-drop, each-map, each-kept, each-perm, kept-yes, kept-not, kept-all, kept-none, kept-length}
+use Rattle.links.proofs.Each.{Each, none, more, first, rest, Pairs, pairs-drop, each-map, each-perm, kept-yes, kept-not, kept-all, kept-none, kept-length}
 
 -- each element is below all behind it
 abbrev pub Asc : {A : Type 0} → (A → ℕ) → List A → Type 0
@@ -79,10 +79,6 @@ module _ {A : Type 0} (key : A → ℕ) where
           → Each (λ x. key x ≡ key a → ⊥) (x ∷ xs)
       go true f g ih = absurd (true≢false g)
       go false f g ih = more (eqb-false (key x) (key a) f) (ih g)
-
-  -- above what stands first, an element is nowhere
-  pub above-not-in : (a x : A) (xs : List A) → Asc key (x ∷ xs) → key a < key x → isIn key a (x ∷ xs) ≡ false
-  above-not-in a x xs asc h = is-in-none a (x ∷ xs) (more (λ e. omega arith) (each-map (λ y i e. omega arith) (asc .0)))
 
   -- it is there exactly if it stands behind all that are below it
   pub is-in-at : (a : A) (xs : List A) (d : A) → Asc key xs

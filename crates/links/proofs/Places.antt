@@ -1,13 +1,13 @@
 -- How many elements stand at another place than before, for the two ways in which a list that ascends is edited: behind the place of
 -- a new element all have moved, and behind the first that goes all that stay. Assumes nothing.
-use Prim.Native.Nat.{ℕ, zero, suc, _+_, _-_, _≤_, _<_}
+use Prim.Native.Nat.{ℕ, suc, _+_, _<_}
 use native.Mathlib.Omega.{arith}
 use native.Mathlib.Decide.{decLt}
-use mathlib.Core.Path.{_≡_, refl, sym, ap, ap₂, _∙_, subst}
+use mathlib.Core.Path.{_≡_, refl, sym, ap, _∙_}
 use mathlib.Core.Bool.{Bool, true, false, cond, not, _&&_, or-true}
 use mathlib.Core.List.{List, [], _∷_, Permᴰ·symm}
 use lib.ListN.{length, getD}
-use lib.Dec.{eqb, ltb}
+use lib.Dec.{eqb}
 use borrow.Author.Tests.{eq-eqb, ne-eqb}
 use Rattle.links.specs.Links.{kept, rank}
 use Rattle.links.specs.Edits.{isIn, inserted, deleted, isFirst, beyond, movedAmong, moved}

@@ -3,7 +3,7 @@
 use Prim.Native.Nat.{ℕ, _+_, _≤_, _<_}
 use native.Mathlib.Numerals.{add-one}
 use native.Mathlib.Omega.{arith}
-use mathlib.Core.Path.{_≡_, refl, sym, ap, ap₂, _∙_}
+use mathlib.Core.Path.{_≡_, refl, sym, ap, _∙_}
 use mathlib.Core.Logic.{_↔_}
 use mathlib.Core.Bool.{Bool, true, false, not, _&&_, _||_, and-eq-true-iff}
 use mathlib.Core.List.{List, [], _∷_}
@@ -12,12 +12,12 @@ use lib.Seq.{drop-cons}
 use lib.Dec.{eqb, ltb, leb}
 use borrow.Author.Tests.{leb-true, le-leb, lt-leb, ltb-true, lt-ltb, le-ltb, eqb-true, eq-eqb, ne-eqb}
 use Rattle.links.specs.declared.link.Link.{Link}
-use Rattle.links.specs.Links.{kept, inRange, keyOf, classOf, Held, addressClass}
-use Rattle.links.specs.Sound.{most, Before, nothing, Sound, mayFollow, inOrder, isSound}
-use Rattle.links.specs.Edits.{isIn, inserted, otherClass}
+use Rattle.links.specs.Links.{kept, inRange, keyOf, classOf, Held}
+use Rattle.links.specs.Sound.{most, nothing, Sound, mayFollow, inOrder, isSound}
+use Rattle.links.specs.Edits.{isIn, inserted}
 use Rattle.links.proofs.Each.{Each, none, more, first, rest, Pairs, each-at, each-of, each-map, each-both, each-kept, each-perm, pairs-at, pairs-of, pairs-kept, pairs-perm}
 use Rattle.links.proofs.Order.{Asc, inserted-asc, inserted-perm}
-use Rattle.links.proofs.Keys.{InRange, range-reads, range-holds, before-key, key-before, key-address, class-some}
+use Rattle.links.proofs.Keys.{InRange, range-reads, range-holds, before-key, key-before, key-address}
 
 -- two links of one address have one class
 abbrev pub Agree : Link → Link → Type 0
@@ -132,9 +132,6 @@ sound-decided h = (reads, holds)
         })
 
 -- ---- edits keep links fine
-
-pub fine-none : Fine []
-fine-none = record { ranged = none; ascends = tt; agrees = tt }
 
 pub fine-kept : (p : Link → Bool) (ls : List Link) → Fine ls → Fine (kept p ls)
 fine-kept p ls f =

@@ -1,20 +1,19 @@
 -- The links of an address: in a list whose addresses do not fall they stand together, behind those of all lower addresses.
 -- First over any measure of the elements, by recursion on the list; then for links. Assumes nothing.
-use Prim.Native.Nat.{ℕ, zero, suc, _+_, _*_, _-_, _≤_, _<_}
+use Prim.Native.Nat.{ℕ, suc, _+_, _*_, _≤_, _<_}
 use native.Mathlib.Omega.{arith}
 use native.Mathlib.Decide.{decLt, ℕ-discrete}
-use mathlib.Core.Path.{_≡_, refl, sym, ap, ap₂, _∙_, subst}
+use mathlib.Core.Path.{_≡_, refl, sym, ap, _∙_}
 use mathlib.Core.Bool.{Bool, true, false, cond, not, _&&_, true≢false}
 use mathlib.Core.List.{List, [], _∷_}
 use lib.ListN.{length, getD, take, drop}
-use lib.Seq.{take-length}
 use lib.Dec.{eqb, ltb, leb·suc-suc}
 use borrow.Author.Tests.{lt-ltb, le-ltb, eq-eqb, ne-eqb, eqb-true, eqb-false}
 use Rattle.links.specs.declared.link.Link.{Link}
 use Rattle.links.specs.Links.{kept, rank, keyOf, classOf, linksTo, startOf, addressClass}
 use Rattle.links.specs.Sound.{nothing}
 use Rattle.links.specs.Edits.{noLinkTo, otherClass}
-use Rattle.links.proofs.Each.{Each, none, more, first, rest, Pairs, each-map, kept-yes, kept-not, kept-all, kept-none, kept-same}
+use Rattle.links.proofs.Each.{Each, none, more, first, rest, Pairs, each-map, kept-yes, kept-not, kept-none, kept-same}
 use Rattle.links.proofs.Order.{Asc, rank-below, rank-none}
 use Rattle.links.proofs.Keys.{InRange, key-under, key-address, class-some}
 use Rattle.links.proofs.Sound.{Fine, Agree}
@@ -195,7 +194,7 @@ agrees-all l ls agree e =
     (class-shared (l .address) ls agree)
   where
     go : (b c : Bool) → eqb (addressClass (l .address) ls) 0 ≡ b → eqb (addressClass (l .address) ls) (classOf (l .kind)) ≡ c
-       → (y : Link) → classOf (y .kind) ≡ addressClass (l .address) ls → not b && not c ≡ false → classOf (l .kind) ≡ classOf (y .kind)
+        → (y : Link) → classOf (y .kind) ≡ addressClass (l .address) ls → not b && not c ≡ false → classOf (l .kind) ≡ classOf (y .kind)
     go true c f g y has e = absurd (omega (arith, has, class-some (y .kind), eqb-true (addressClass (l .address) ls) 0 f))
     go false true f g y has e = sym (has ∙ eqb-true (addressClass (l .address) ls) (classOf (l .kind)) g)
     go false false f g y has e = absurd (true≢false e)
@@ -207,6 +206,7 @@ no-other-class l ls agree = go (eqb (addressClass (l .address) ls) 0) refl (walk
   where
     Fits : List Link → Type 0
     Fits xs = (addressClass (l .address) xs ≡ 0 → ⊥) → addressClass (l .address) xs ≡ classOf (l .kind)
+
     walk : (xs : List Link) → Each (Agree l) xs → Fits xs
     walk [] a some = absurd (some (class-none (l .address)))
     walk (x ∷ xs) a some = here (ℕ-discrete (x .address) (l .address)) (walk xs (rest a)) some
@@ -214,7 +214,8 @@ no-other-class l ls agree = go (eqb (addressClass (l .address) ls) 0) refl (walk
         here : Dec (x .address ≡ l .address) → Fits xs → Fits (x ∷ xs)
         here (yes e) ih some = class-here (l .address) x xs e ∙ sym (first a (sym e))
         here (no n) ih some = class-skip (l .address) x xs n ∙ ih (λ z. some (class-skip (l .address) x xs n ∙ z))
+
     go : (b : Bool) → eqb (addressClass (l .address) ls) 0 ≡ b → Fits ls
-       → not b && not (eqb (addressClass (l .address) ls) (classOf (l .kind))) ≡ false
+        → not b && not (eqb (addressClass (l .address) ls) (classOf (l .kind))) ≡ false
     go true f fits = refl
     go false f fits = ap not (eq-eqb (addressClass (l .address) ls) (classOf (l .kind)) (fits (eqb-false (addressClass (l .address) ls) 0 f)))

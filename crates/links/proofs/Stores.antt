@@ -1,22 +1,17 @@
 -- Links as an array stores them: what is held up to the count, and what the loops that write in place leave there.
 -- A loop that moves links is a copy of a part of the old array into the new one (`paste`). Assumes nothing.
 use Prim.Native.Nat.{ℕ, zero, suc, _+_, _-_, _≤_, _<_}
-use native.Mathlib.Nat.{add-zero}
 use native.Mathlib.Numerals.{add-one}
 use native.Mathlib.Omega.{arith}
-use mathlib.Core.Path.{_≡_, refl, sym, ap, ap₂, _∙_, subst}
-use mathlib.Core.Bool.{Bool, true, false, cond}
-use mathlib.Core.List.{List, [], _∷_, _++_, map, append-assoc}
-use lib.ListN.{length, getD, take, drop, set, length-map, length-append, length-take, length-drop, length-set}
-use lib.Seq.{length-take-le, getD-take, getD-drop, take-take, take-nil, take-at, take-paste, paste, paste-zero, paste-suc, set-append-left, take-set-lt, take-set-le, take-suc-set, append-snoc, drop-cons}
-use lib.Dec.{ltb, leb·suc-suc}
-use borrow.Author.Tests.{lt-ltb}
+use mathlib.Core.Path.{_≡_, sym, ap, ap₂, _∙_}
+use mathlib.Core.Bool.{true}
+use mathlib.Core.List.{List, [], _∷_, _++_, map}
+use lib.ListN.{length, getD, take, drop, set, length-map, length-append, length-drop}
+use lib.Seq.{length-take-le, getD-drop, take-take, take-nil, take-at, take-paste, paste, paste-zero, paste-suc, set-append-left, take-set-lt, take-suc-set, append-snoc}
 use Rattle.links.specs.declared.link.Link.{Link}
 use Rattle.links.specs.declared.table.Table.{Table}
-use Rattle.links.specs.Links.{kept, heldOf, holding}
+use Rattle.links.specs.Links.{heldOf, holding}
 use Rattle.links.specs.Sound.{isSound}
-use Rattle.links.proofs.Each.{kept-yes, kept-not}
-use Rattle.links.proofs.Places.{shifted}
 use Rattle.links.proofs.Sound.{sound-reads}
 
 -- the length of an array, as the array's own rule says it

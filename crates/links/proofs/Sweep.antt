@@ -10,7 +10,6 @@ use lib.ListN.{length, getD, take, drop, set, length-set, drop-of-length-le}
 use lib.Seq.{length-take-le, getD-take, take-set-le, take-suc-set, append-snoc, drop-cons}
 use lib.Dec.{eqb, ltb, leb·suc-suc}
 use borrow.Author.Tests.{lt-ltb}
-use Rattle.answers.specs.Answers.{Outcome}
 use Rattle.links.specs.declared.link.Link.{Link}
 use Rattle.links.specs.declared.table.Table.{Table}
 use Rattle.links.specs.Links.{kept, keyOf, Held, heldOf, holding}

@@ -2,14 +2,14 @@
 -- Assumes nothing.
 use Prim.Native.Nat.{ℕ, _+_}
 use mathlib.Core.Path.{_≡_}
-use mathlib.Core.Bool.{Bool, true, false, cond, not, _&&_, _||_}
+use mathlib.Core.Bool.{Bool, false, cond, not, _&&_, _||_}
 use mathlib.Core.List.{List, [], _∷_}
 use lib.ListN.{length}
 use lib.Dec.{eqb, ltb, leb}
 use Rattle.answers.specs.Answers.{Check, refusal, Outcome, answered}
 use Rattle.links.specs.declared.link.Link.{Link}
-use Rattle.links.specs.declared.table.Found.{Found}
-use Rattle.links.specs.declared.table.Classed.{Classed}
+use Rattle.links.specs.declared.addresses.Found.{Found}
+use Rattle.links.specs.declared.addresses.Classed.{Classed}
 use Rattle.links.specs.declared.edits.Edited.{Edited}
 use Rattle.links.specs.Links.{kept, inRange, keyOf, classOf, Held, heldOf, holding, linksTo, startOf, addressClass}
 use Rattle.links.specs.Sound.{isSound, most}

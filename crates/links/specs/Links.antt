@@ -17,9 +17,13 @@ kept p (x ∷ xs) = cond (p x) (x ∷ kept p xs) (kept p xs)
 unfoldable pub rank : {A : Type 0} → (A → ℕ) → ℕ → List A → ℕ
 rank key k xs = length (kept (λ x. ltb (key x) k) xs)
 
+-- The highest address.
+abbrev pub lastAddress : ℕ
+lastAddress = 65535
+
 -- "A link is (address 1 to 65535, tag, input kind)", with the tags 0 to 63 and the kinds 0 to 7.
 unfoldable pub inRange : Link → Bool
-inRange l = leb 1 (l .address) && leb (l .address) 65535 && leb (l .tag) 63 && leb (l .kind) 7
+inRange l = leb 1 (l .address) && leb (l .address) lastAddress && leb (l .tag) 63 && leb (l .kind) 7
 
 -- "Ascending by address, then tag, then kind": one number that orders links so.
 unfoldable pub keyOf : Link → ℕ

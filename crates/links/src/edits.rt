@@ -9,9 +9,10 @@ ghost use lib.Dec.{eqb, ltb};
 ghost use lib.ListN.{take, drop};
 ghost use Rattle.answers.specs.Answers.{refusal};
 ghost use Rattle.links.specs.Links.{classOf, keyOf, rank, heldOf, holding};
-ghost use Rattle.links.specs.Sound.{isSound};
+ghost use Rattle.links.specs.Sound.{most, isSound};
 ghost use Rattle.links.specs.Edits.{isIn, moved, dropped, addChecks, added, removed, tagRemoved, editedOf};
 use super::link::Link;
+use super::link::NO_CLASS;
 use super::link::class_of_kind;
 use super::table::MOST;
 use super::table::Table;
@@ -66,13 +67,21 @@ fn places_moved(link: Link, tag: u64, old: usize, new: usize) -> u64
 fn clashes(class: u8, kind: u8) -> bool
     ensures { λ r. ⌜ r ≡ not (eqb class 0) && not (eqb class (classOf kind)) ⌝ }
 {
-    if class == 0 {
+    if class == NO_CLASS {
         return false;
     }
     class != class_of_kind(kind)
 }
 
 impl Table {
+    // The place of a link: behind all links that are below it.
+    fn place_of(self, link: Link) -> usize
+        requires { ⌜ isSound (heldOf self) ≡ true ⌝ }
+        ensures { λ r. ⌜ r ≡ rank keyOf (keyOf link) (heldOf self .links) ⌝ }
+    {
+        self.below(link.key())
+    }
+
     // Whether a link stands at the place where the search for it ended.
     fn holds(self, link: Link, place: usize) -> bool
         requires { ⌜ isSound (heldOf self) ≡ true ⌝ }
@@ -112,7 +121,7 @@ impl Table {
     // The table with a link put in at a place: the links from there on move up by one.
     fn with_at(self, place: usize, link: Link) -> Table
         requires { ⌜ place ≤ self .count ⌝ }
-        requires { ⌜ self .count < 512 ⌝ }
+        requires { ⌜ self .count < most ⌝ }
         ensures { λ r. ⌜ heldOf r ≡ holding (take place (heldOf self .links) ++ link ∷ drop place (heldOf self .links)) ⌝ }
     {
         let count = self.count;
@@ -131,7 +140,7 @@ impl Table {
     // The table without the link at a place: the links behind it move down by one.
     fn without_at(self, place: usize) -> Table
         requires { ⌜ place < self .count ⌝ }
-        requires { ⌜ self .count ≤ 512 ⌝ }
+        requires { ⌜ self .count ≤ most ⌝ }
         ensures { λ r. ⌜ heldOf r ≡ holding (take place (heldOf self .links) ++ drop (suc place) (heldOf self .links)) ⌝ }
     {
         let count = self.count;
@@ -178,16 +187,17 @@ impl Table {
         if !self.is_sound() {
             return Edited::refused(NOT_SOUND, self);
         }
-        let place = self.below(link.key());
+        let place = self.place_of(link);
         let answer = self.judge_new(link, place);
         if answer != DONE {
             return Edited::refused(answer, self);
         }
-        let table = self.with_at(place, link);
+        let count = self.count;
+        let grown = self.with_at(place, link);
         Edited {
             answer: DONE,
-            moved: (self.count - place) as u64,
-            table: table,
+            moved: (count - place) as u64,
+            table: grown,
         }
     }
 
@@ -198,15 +208,16 @@ impl Table {
         if !self.is_sound() {
             return Edited::refused(NOT_SOUND, self);
         }
-        let place = self.below(link.key());
+        let place = self.place_of(link);
         if !self.holds(link, place) {
             return Edited::refused(NO_LINK, self);
         }
-        let table = self.without_at(place);
+        let count = self.count;
+        let shrunk = self.without_at(place);
         Edited {
             answer: DONE,
-            moved: (self.count - 1 - place) as u64,
-            table: table,
+            moved: (count - 1 - place) as u64,
+            table: shrunk,
         }
     }
 

@@ -16,7 +16,9 @@ const FORCED: u8 = 3;
 
 const POSITION: u8 = 7;
 
-// A class is named by its greatest value.
+// A class is named by its greatest value, so 0 is none.
+pub(crate) const NO_CLASS: u8 = 0;
+
 const ONE_BIT: u8 = 1;
 
 const TWO_BITS: u8 = 3;
@@ -24,7 +26,7 @@ const TWO_BITS: u8 = 3;
 const ONE_BYTE: u8 = 255;
 
 // How far apart the keys of neighbouring addresses are, and of neighbouring tags.
-pub const ADDRESS_STEP: u64 = 65536;
+pub(crate) const ADDRESS_STEP: u64 = 65536;
 
 const TAG_STEP: u64 = 256;
 

@@ -5,7 +5,7 @@ use native.Mathlib.Nat.{pow-suc}
 use native.Mathlib.Omega.{arith}
 use native.Mathlib.Decide.{decLt}
 use mathlib.Core.Path.{_≡_, refl, sym, ap, ap₂, _∙_, fun-ext}
-use mathlib.Core.Bool.{Bool, true, false, cond, not, _&&_, _||_}
+use mathlib.Core.Bool.{Bool, true, false, cond, not, _&&_, _||_, and-false, or-true, or-false}
 use lib.Dec.{eqb, ltb}
 use lib.Pow.{pow-pos, pow-lt}
 use lib.Bits.{bitOr, bitAnd}
@@ -64,14 +64,6 @@ member-put n w t h = fun-ext (λ k. at k ∙ swap k (eqb k t) refl)
         ap (λ (x : ℕ). eqb x 1) (digit-or w (2 ^ t) k) ∙ bit-or (digit w k) (digit (2 ^ t) k) (digit-small w k) (digit-small (2 ^ t) k)
         ∙ ap (λ (b : Bool). eqb (digit w k) 1 || b) (ap (λ (x : ℕ). eqb x 1) (digit-power t k) ∙ bit-power (eqb k t))
 
-    or-true : (b : Bool) → b || true ≡ true
-    or-true true = refl
-    or-true false = refl
-
-    or-false : (b : Bool) → b || false ≡ b
-    or-false true = refl
-    or-false false = refl
-
     swap : (k : ℕ) (b : Bool) → eqb k t ≡ b → eqb (digit w k) 1 || eqb k t ≡ (eqb k t && ltb k n) || eqb (digit w k) 1
     swap k true e = rw (e, lt-ltb k n (omega (arith, eqb-true k t e))) (or-true (eqb (digit w k) 1))
     swap k false e = rw e (or-false (eqb (digit w k) 1))
@@ -90,10 +82,6 @@ pub member-taken : (n w t : ℕ) → w < 2 ^ n → t < n → member (bitAnd w (2
 unfolding member taken
 member-taken n w t h i = fun-ext (λ k. go k (decLt k n))
   where
-    past : (b : Bool) → false ≡ not b && false
-    past true = refl
-    past false = refl
-
     least : (x y : ℕ) → x ≡ 0 → min x y ≡ 0
     least x y e = omega arith
 
@@ -106,7 +94,7 @@ member-taken n w t h i = fun-ext (λ k. go k (decLt k n))
     go k (no j) =
         let d : digit w k ≡ 0 = digit-past n w k h (omega arith) in
         ap (λ (x : ℕ). eqb x 1) (digit-and w (2 ^ n - 1 - 2 ^ t) k ∙ least (digit w k) (digit (2 ^ n - 1 - 2 ^ t) k) d)
-        ∙ past (eqb k t) ∙ ap (λ (x : ℕ). not (eqb k t) && eqb x 1) (sym d)
+        ∙ sym (and-false (not (eqb k t))) ∙ ap (λ (x : ℕ). not (eqb k t) && eqb x 1) (sym d)
 
 -- a tag that is not in a set changes nothing where it is taken out
 pub taken-past : (t : ℕ) (s : TagSet) → s t ≡ false → taken t s ≡ s

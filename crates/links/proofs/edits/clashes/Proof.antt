@@ -1,7 +1,4 @@
 -- Each return is one case of the test.
-use mathlib.Core.Path.{_≡_, ap}
-use mathlib.Core.Bool.{not}
-use lib.Dec.{eqb}
 use borrow.Author.Needs.{needs}
 use borrow.Author.Tests.{eq-eqb, ne-eqb}
 use Rattle.links.proofs.edits.clashes.Statement.{statement}

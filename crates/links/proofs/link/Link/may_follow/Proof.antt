@@ -1,7 +1,6 @@
 -- Each return is one case of the definition; the calls say the range, the keys and the classes.
 use Prim.Native.Nat.{_≤_, _<_}
-use mathlib.Core.Path.{_≡_, sym, ap₂, _∙_, subst₂}
-use mathlib.Core.Bool.{true, false}
+use mathlib.Core.Path.{sym, ap₂, _∙_, subst₂}
 use lib.Dec.{eqb}
 use borrow.Author.Needs.{needs}
 use borrow.Author.Tests.{not-true, not-false}

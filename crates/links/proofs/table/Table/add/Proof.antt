@@ -1,13 +1,13 @@
 -- The test refuses an unsound table, the judge the rest; else the link goes to the place where the search for it ended.
 use native.Mathlib.Omega.{arith}
-use Prim.Native.Nat.{ℕ, _≤_, _<_}
+use Prim.Native.Nat.{_≤_}
 use mathlib.Core.Path.{_≡_, sym, ap, _∙_}
 use mathlib.Core.Bool.{true}
 use lib.ListN.{length}
 use borrow.Author.Needs.{needs}
 use borrow.Author.Tests.{not-true, not-false}
 use Rattle.answers.specs.Answers.{refusal}
-use Rattle.links.specs.Links.{keyOf, rank, heldOf}
+use Rattle.links.specs.Links.{heldOf}
 use Rattle.links.specs.Sound.{isSound}
 use Rattle.links.specs.Edits.{addChecks, editedOf}
 use Rattle.links.proofs.Calls.{accepted, added-unsound, added-refused}
@@ -23,20 +23,14 @@ sound c = sym (c .before .is-sound .ensures) ∙ not-false _ (c .if1 .left)
 full : (c : tie.Else1) → length (heldOf (c .before .before .args .self) .links) ≡ c .before .before .args .self .count
 full c = many (c .before .before .args .self) (search (long, needs)) (few _ (sound c))
 
--- the search was for the link's key
-searched : (c : tie.After-below)
-    → c .below .result ≡ rank keyOf (keyOf (c .before .before .before .before .args .link)) (heldOf (c .before .before .before .before .args .self) .links)
-searched c =
-    c .below .ensures ∙ ap (λ (k : ℕ). rank keyOf k (heldOf (c .before .before .before .before .args .self) .links)) (c .before .key .ensures)
-
 -- the judge has no objection
-judged : (c : tie.Else2) → 0 ≡ refusal (addChecks (c .before .before .before .before .before .before .args .link) (heldOf (c .before .before .before .before .before .before .args .self)))
+judged : (c : tie.Else2) → 0 ≡ refusal (addChecks (c .before .before .before .before .before .args .link) (heldOf (c .before .before .before .before .before .args .self)))
 judged c = sym (c .if2 .left) ∙ c .before .judge-new .ensures
 
-low : (c : tie.Else2) → c .before .before .below .result ≤ c .before .before .before .before .before .before .args .self .count
+low : (c : tie.Else2) → c .before .before .place-of .result ≤ c .before .before .before .before .before .args .self .count
 low c =
-    let one = c .before .before .before .before in
-    place-low (heldOf (one .before .before .args .self)) (one .before .before .args .link) (sound one) (full one) (searched (c .before .before))
+    let one = c .before .before .before in
+    place-low (heldOf (one .before .before .args .self)) (one .before .before .args .link) (sound one) (full one) (c .before .before .place-of .ensures)
 
 returns : tie.Need-returns
 returns c =
@@ -46,19 +40,19 @@ returns c =
 returns-2 : tie.Need-returns-2
 returns-2 c =
     ap editedOf (c .refused2 .ensures)
-    ∙ sym (added-refused _ _ (sound (c .before .before .before .before .before)) (c .before .before .judge-new .ensures) (c .before .if2 .taken))
+    ∙ sym (added-refused _ _ (sound (c .before .before .before .before)) (c .before .before .judge-new .ensures) (c .before .if2 .taken))
 
 with-at-requires : tie.Need-with-at-requires
 with-at-requires c κs =
-    let start = c .before .before .before .before .before .before in
+    let start = c .before .before .before .before .before in
     (low c, accepted (heldOf (start .args .self)) (start .args .link) (sym (judged c)) .room)
 
 returns-3 : tie.Need-returns-3
 returns-3 c =
-    let two = c .before .before in
-    let one = two .before .before .before .before in
-    added-at (heldOf (one .before .before .args .self)) (one .before .before .args .link) (sound one) (full one) (searched (two .before .before))
-    (judged two) (c .before .with-at .ensures)
+    let two = c .before in
+    let one = two .before .before .before in
+    added-at (heldOf (one .before .before .args .self)) (one .before .before .args .link) (sound one) (full one) (two .before .before .place-of .ensures)
+    (judged two) (c .with-at .ensures)
 
 pub add-spec : {M : Type 1} → statement M
 add-spec =
@@ -67,11 +61,10 @@ add-spec =
     (λ c κs. search needs)
     (λ c κs. search needs)
     returns
-    (λ c κs. search needs)
-    (λ c κs. sound (c .before))
-    (λ c κs. (sound (c .before .before), searched c))
+    (λ c κs. sound c)
+    (λ c κs. (sound (c .before), c .place-of .ensures))
     (λ c κs. search needs)
     returns-2
     with-at-requires
-    (λ c. omega (arith, low (c .before .before)))
+    (λ c. omega (arith, low (c .before)))
     returns-3)

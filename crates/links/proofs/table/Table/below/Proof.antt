@@ -1,14 +1,13 @@
 -- Every link passed is below the key, so the links passed and those below the key in what is left are all that are below it.
 -- The first that is not below ends the search, since the links ascend.
 use Prim.Native.Nat.{ℕ, _+_, _-_, _≤_, _<_}
-use native.Mathlib.Nat.{zero-add}
 use native.Mathlib.Omega.{arith}
 use mathlib.Core.Path.{_≡_, sym, ap, _∙_, subst}
-use lib.ListN.{length, getD, take, drop}
+use lib.ListN.{length, getD, drop}
 use lib.Seq.{getD-take}
 use borrow.Author.Needs.{needs}
 use Rattle.links.specs.Links.{keyOf, rank, heldOf}
-use Rattle.links.specs.Sound.{nothing, isSound}
+use Rattle.links.specs.Sound.{nothing}
 use Rattle.links.proofs.Order.{rank-more, rank-stop, rank-end}
 use Rattle.links.proofs.Sound.{sound-reads}
 use Rattle.links.proofs.Stores.{long, few, many}

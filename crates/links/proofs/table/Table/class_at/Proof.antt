@@ -1,5 +1,4 @@
 -- The search by the first key of the address ends where its links start, if it has any; the link there has the class.
-use Prim.Native.Nat.{ℕ, _≤_}
 use native.Mathlib.Omega.{arith}
 use mathlib.Core.Path.{_≡_, sym, ap, _∙_}
 use lib.ListN.{length, getD}

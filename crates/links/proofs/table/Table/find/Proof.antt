@@ -1,6 +1,4 @@
 -- The test refuses an unsound table; else two searches, for the first key of the address and of the next one, bound its links.
-use Prim.Native.Nat.{_≤_}
-use native.Mathlib.Omega.{arith}
 use mathlib.Core.Path.{_≡_, sym, ap, _∙_}
 use mathlib.Core.Bool.{true}
 use borrow.Author.Needs.{needs}
@@ -32,7 +30,9 @@ returns-3 c =
 
 returns-4 : tie.Need-returns-4
 returns-4 c =
-    sym (searched-some _ _ (sound (c .before .before .before .before)) (c .before .before .below .ensures) (c .before .below2 .ensures) (c .if3 .left))
+    let at = c .before .before .before in
+    ap foundOf (c .span .ensures)
+    ∙ sym (searched-some _ _ (sound (at .before .before)) (at .below .ensures) (c .before .before .below2 .ensures) (c .before .if3 .left))
 
 pub find-spec : {M : Type 1} → statement M
 find-spec =
@@ -50,5 +50,5 @@ find-spec =
     (λ c κs. sound (c .before .before))
     (λ c κs. search needs)
     returns-3
-    (λ c. search needs)
+    (λ c κs. search needs)
     returns-4)

@@ -1,7 +1,7 @@
 -- In links that ascend, a link can only stand where the search for it ended.
 use native.Mathlib.Omega.{arith}
 use mathlib.Core.Path.{_≡_, sym, ap, ap₂, _∙_}
-use lib.ListN.{length, getD}
+use lib.ListN.{length}
 use lib.Seq.{getD-take}
 use lib.Dec.{eqb}
 use borrow.Author.Needs.{needs}

@@ -1,5 +1,5 @@
 -- The walk of Sweep: the calls say whether a link takes its place and whether it moves, and the record of the walk goes on.
-use Prim.Native.Nat.{_-_, _≤_}
+use Prim.Native.Nat.{_-_}
 use native.Mathlib.Omega.{arith}
 use mathlib.Core.Path.{_≡_, refl}
 use mathlib.Core.Bool.{cond}
