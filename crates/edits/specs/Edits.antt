@@ -19,7 +19,7 @@ use Rattle.panel.specs.Strip.{terminals}
 use Rattle.panel.specs.Calls.{unsound, checks}
 use Rattle.seats.specs.Seats.{inUse, isBusy}
 use Rattle.edits.specs.declared.asked.Asked.{Asked}
-use Rattle.edits.specs.declared.inventory.Inventory.{Inventory}
+use Rattle.edits.specs.declared.inventory.Stock.{Stock}
 use Rattle.edits.specs.Parameters.{paramsOf, allowed}
 
 -- ---- "Install (tag, terminal, parameters): a fresh blind."
@@ -105,5 +105,5 @@ inventoried m =
     answered (refusal (unsound m ∷ [])) 0 (howMany places (presentIn m)) (lowestFree places (presentIn m))
 
 -- What a result says: the answer, the number of blinds, and the lowest free tag.
-abbrev pub stockOf : Inventory → Outcome ℕ
-stockOf r = record { answer = r .answer; count = r .blinds; leaves = r .lowest_free }
+abbrev pub stockOf : Stock → Outcome ℕ
+stockOf r = record { answer = r .answer; count = r .blinds; leaves = r .lowest }

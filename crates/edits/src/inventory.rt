@@ -6,26 +6,26 @@ ghost use mathlib.Core.Path.{_≡_};
 ghost use Rattle.panel.specs.Panel.{modelOf};
 ghost use Rattle.edits.specs.Edits.{inventoried, stockOf};
 
-pub struct Inventory {
+pub struct Stock {
     pub answer: u8,
     pub blinds: u32,
-    pub lowest_free: u32,
+    pub lowest: u32,
 }
 
 // Takes the inventory; refused by 12, with both numbers 0.
-pub fn inventory(panel: Panel) -> Inventory
+pub fn inventory(panel: Panel) -> Stock
     ensures { λ r. ⌜ stockOf r ≡ inventoried (modelOf panel) ⌝ }
 {
     if !panel.is_sound() {
-        return Inventory {
+        return Stock {
             answer: NOT_SOUND,
             blinds: 0,
-            lowest_free: 0,
+            lowest: 0,
         };
     }
-    Inventory {
+    Stock {
         answer: DONE,
         blinds: panel.present.count(),
-        lowest_free: panel.present.lowest_free(),
+        lowest: panel.present.lowest_free(),
     }
 }

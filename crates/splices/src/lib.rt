@@ -9,7 +9,7 @@ use answers::TERMINAL_IN_USE;
 use panel::Panel;
 use panel::calls::Answered;
 use seats::TERMINALS;
-ghost use Prim.Native.Nat.{_+_};
+ghost use Prim.Native.Nat.{_+_, _≤_};
 ghost use mathlib.Core.Path.{_≡_};
 ghost use mathlib.Core.Bool.{true, false};
 ghost use Rattle.answers.specs.Answers.{refusal};
@@ -18,7 +18,7 @@ ghost use Rattle.panel.specs.Calls.{outcomeOf};
 ghost use Rattle.panel.specs.Sound.{isSound};
 ghost use Rattle.seats.specs.Seats.{wouldPass};
 ghost use Rattle.splices.specs.Splices.{offStrip, shifted, raised, inChecks, splicedIn, lowered, outChecks, splicedOut};
-ghost use Rattle.splices.specs.Splices.{raisedWithin};
+ghost use Rattle.splices.specs.Splices.{raisedWithin, loweredFrom};
 
 // Splices n terminals in at t; refused by 12, 1, 3, 9, in this order.
 pub fn splice_in(panel: Panel, t: u64, n: u64) -> Answered
@@ -155,6 +155,7 @@ fn raise(terminal: u8, t: u64, n: u64) -> u8
 }
 
 fn lower(terminal: u8, end: u64, n: u64) -> u8
+    requires { ⌜ n ≤ end ⌝ }
     ensures { λ r. ⌜ r ≡ loweredFrom end n terminal ⌝ }
 {
     let place = terminal as u64;

@@ -1,0 +1,3 @@
+pub mod Parameters
+pub mod BlindEdits
+pub mod LinkEdits

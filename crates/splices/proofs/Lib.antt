@@ -1,0 +1,3 @@
+pub mod Strip
+pub mod Shifts
+pub mod Judged
