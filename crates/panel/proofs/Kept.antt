@@ -2,7 +2,8 @@
 -- Assumes nothing.
 use Prim.Native.Nat.{ℕ, _<_, _≤_}
 use native.Mathlib.Decide.{ℕ-discrete}
-use mathlib.Core.Path.{_≡_, refl, sym, ap, _∙_}
+use native.Mathlib.Omega.{arith}
+use mathlib.Core.Path.{_≡_, refl, sym, ap, _∙_, subst}
 use mathlib.Core.Bool.{Bool, true, false}
 use mathlib.Core.Option.{Option, none, some, Option·map, Option·some-injective, Option·none-ne-some}
 use lib.ListN.{length, getD}
@@ -10,7 +11,7 @@ use Rattle.tags.specs.Tags.{places}
 use Rattle.reading.specs.Sound as ofBlind
 use Rattle.links.specs.Links.{Held}
 use Rattle.links.specs.Sound as ofLinks
-use Rattle.panel.specs.Panel.{Seat, Model, isThere, presentIn, reseated, eachSeat, relinked}
+use Rattle.panel.specs.Panel.{Seat, Model, isThere, presentIn, bare, reseated, eachSeat, relinked}
 use Rattle.panel.specs.Sound.{Sound}
 use Rattle.panel.proofs.Seats.{reseated-at, reseated-other}
 
@@ -95,3 +96,94 @@ module _ (t : ℕ) (m : Model) where
       go : Dec (tag ≡ t) → P
       go (yes same) = same-case same (sym (reseated-at t new m) ∙ (rw same at at))
       go (no other) = other-case other (sym (reseated-other t new m tag other) ∙ at)
+
+  -- a sound seat at a terminal that no other tag has
+  pub seat-sound : (seat : Seat) → Sound m → t < places → seat .terminal ≤ 127 → ofBlind.Sound (seat .blind)
+      → ((tag : ℕ) (other : Seat) → (tag ≡ t → ⊥) → m .seats tag ≡ some other → other .terminal ≡ seat .terminal → ⊥)
+      → Sound (reseated t (some seat) m)
+  unfolding reseated
+  seat-sound seat s here low good alone =
+      record {
+        links = s .links;
+        named = λ i h. reseated-present seat _ (s .named i h);
+        distinct = λ j k a b at-j at-k same.
+            reseated-from (some seat) j a at-j (j ≡ k)
+            (λ j-t new-a.
+            reseated-from (some seat) k b at-k (j ≡ k)
+            (λ k-t new-b. j-t ∙ sym k-t)
+            (λ k-other old-b. absurd (alone k b k-other old-b (sym same ∙ terminal-is new-a))))
+            (λ j-other old-a.
+            reseated-from (some seat) k b at-k (j ≡ k)
+            (λ k-t new-b. absurd (alone j a j-other old-a (same ∙ terminal-is new-b)))
+            (λ k-other old-b. s .distinct j k a b old-a old-b same));
+        in-range = λ tag other at.
+            reseated-from (some seat) tag other at (other .terminal ≤ 127)
+            (λ same new. subst (λ (x : Seat). x .terminal ≤ 127) (Option·some-injective seat other new) low)
+            (λ no-t old. s .in-range tag other old);
+        blinds = λ tag other at.
+            reseated-from (some seat) tag other at (ofBlind.Sound (other .blind))
+            (λ same new. subst (λ (x : Seat). ofBlind.Sound (x .blind)) (Option·some-injective seat other new) good)
+            (λ no-t old. s .blinds tag other old);
+        tags = λ tag other at.
+            reseated-from (some seat) tag other at (tag < places)
+            (λ same new. rw same here)
+            (λ no-t old. s .tags tag other old);
+      }
+    where
+      terminal-is : {a : Seat} → _≡_ {A = Option Seat} (some seat) (some a) → a .terminal ≡ seat .terminal
+      terminal-is {a} e = ap (λ (x : Seat). x .terminal) (sym (Option·some-injective seat a e))
+
+  -- a seat that no link names goes
+  pub gone-sound : Sound m → ((i : ℕ) → i < length (m .table .links) → getD (m .table .links) i ofLinks.nothing .tag ≡ t → ⊥)
+      → Sound (reseated t none m)
+  unfolding reseated
+  gone-sound s unnamed =
+      record {
+        links = s .links;
+        named = λ i h. gone-present _ (unnamed i h) ∙ s .named i h;
+        distinct = λ j k a b at-j at-k same. s .distinct j k a b (stood j a at-j) (stood k b at-k) same;
+        in-range = λ tag seat at. s .in-range tag seat (stood tag seat at);
+        blinds = λ tag seat at. s .blinds tag seat (stood tag seat at);
+        tags = λ tag seat at. s .tags tag seat (stood tag seat at);
+      }
+    where
+      stood : (tag : ℕ) (seat : Seat) → reseated t none m .seats tag ≡ some seat → m .seats tag ≡ some seat
+      stood tag seat at =
+          reseated-from none tag seat at (m .seats tag ≡ some seat) (λ same new. absurd (Option·none-ne-some seat new)) (λ other old. old)
+
+-- ---- other links
+
+pub links-sound : (h : Held) (m : Model) → Sound m → ofLinks.Sound h
+    → ((i : ℕ) → i < length (h .links) → presentIn m (getD (h .links) i ofLinks.nothing .tag) ≡ true)
+    → Sound (relinked h m)
+unfolding presentIn
+links-sound h m s sound named =
+    record {
+      links = sound;
+      named = named;
+      distinct = s .distinct;
+      in-range = s .in-range;
+      blinds = s .blinds;
+      tags = s .tags;
+    }
+
+-- the panel without blinds and links is sound
+pub bare-sound : Sound bare
+bare-sound =
+    record {
+      links = no-links;
+      named = λ i h. absurd (omega arith);
+      distinct = λ s t a b at-s at-t same. absurd (Option·none-ne-some a at-s);
+      in-range = λ tag seat at. absurd (Option·none-ne-some seat at);
+      blinds = λ tag seat at. absurd (Option·none-ne-some seat at);
+      tags = λ tag seat at. absurd (Option·none-ne-some seat at);
+    }
+  where
+    no-links : ofLinks.Sound (bare .table)
+    no-links =
+        record {
+          at-most = omega arith;
+          in-range = λ i h. absurd (omega arith);
+          ascending = λ i j k h. absurd (omega arith);
+          one-class = λ i j k h. absurd (omega arith);
+        }

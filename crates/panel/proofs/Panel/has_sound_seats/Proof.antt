@@ -1,5 +1,5 @@
 -- The pass over what is left of the tags, with the terminals met so far, decides as the pass over all of them does.
-use Prim.Native.Nat.{_+_, _-_, _≤_}
+use Prim.Native.Nat.{_+_, _-_, _≤_, _<_}
 use native.Mathlib.Omega.{arith}
 use mathlib.Core.Path.{_≡_, sym, ap, _∙_}
 use mathlib.Core.Logic.{⊎-elim}
@@ -29,7 +29,7 @@ returns : tie.Need-returns Inv-loop μ-loop
 returns c =
     let at = c .before .before .before .before .before .before .before .before in
     let p = at .before .before .args .t1 in
-    sym (pass-fails (seatsOf p) (takenOf (at .loop .met)) (at .loop .tag) (placeOf p (at .loop .tag)) (c .before .before .before .before .before .before .before .loop-test .taken)
+    sym (pass-fails (seatsOf p) (takenOf (at .loop .met)) (at .loop .tag) (placeOf p (at .loop .tag)) (omega arith)
     (seat-present p (at .loop .tag) (sym (c .before .before .before .before .before .has .ensures) ∙ c .before .before .before .before .if1 .taken))
     (sym (c .before .may-stand .ensures) ∙ not-true _ (c .if2 .taken)) (at .loop .inv .1))
 
@@ -38,7 +38,7 @@ loop-again : tie.Need-loop-again Inv-loop μ-loop
 loop-again c =
     let at = c .before .before .before .before in
     let p = at .before .before .args .t1 in
-    let here = c .before .before .before .loop-test .taken in (
+    let here : at .loop .tag < 64 = omega arith in (
       omega arith,
       ⊎-elim
           (λ w.

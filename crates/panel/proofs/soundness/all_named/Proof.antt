@@ -39,7 +39,7 @@ here c =
     let start = c .before .before .before .before in
     let t = start .args .t2 in
     c .names-present .ensures
-    ∙ ap (λ (l : Link). tagsOf (start .args .present) (l .tag)) (sym (getD-take (t .count) (t .links) (c .before .before .before .loop .i) nothing (c .before .before .loop-test .taken)))
+    ∙ ap (λ (l : Link). tagsOf (start .args .present) (l .tag)) (sym (getD-take (t .count) (t .links) (c .before .before .before .loop .i) nothing (omega arith)))
 
 returns : tie.Need-returns Inv-loop μ-loop
 unfolding allNamed
