@@ -5,12 +5,12 @@ use native.Mathlib.Omega.{arith}
 use native.Mathlib.Decide.{decLt}
 use mathlib.Core.Path.{_≡_, refl, sym, ap, _∙_}
 use mathlib.Core.Bool.{Bool, true, false, cond, not, _&&_, or-true}
-use mathlib.Core.List.{List, [], _∷_, Permᴰ·symm}
+use mathlib.Core.List.{List, [], _∷_, tail, Permᴰ·symm}
 use lib.ListN.{length, getD}
 use lib.Dec.{eqb}
 use borrow.Author.Tests.{eq-eqb, ne-eqb}
 use Rattle.links.specs.Links.{kept, rank}
-use Rattle.links.specs.Edits.{isIn, inserted, deleted, isFirst, beyond, movedAmong, moved}
+use Rattle.links.specs.Edits.{isIn, inserted, deleted, isFirst, movedAmong, moved}
 use Rattle.links.proofs.Each.{Each, none, more, first, rest, each-map, each-both, each-kept, each-perm}
 use Rattle.links.proofs.Order.{Asc, rank-below, rank-none, rank-first, is-in-none, not-in, inserted-below, inserted-above, inserted-perm, others, others-pass}
 
@@ -42,7 +42,7 @@ module _ {A : Type 0} (key : A → ℕ) where
 
   -- an element that stands where it stood
   stood : (all : List A) (x : A) (old new : List A) → movedAmong key all (x ∷ old) (x ∷ new) ≡ movedAmong key all old new
-  unfolding movedAmong isFirst beyond
+  unfolding movedAmong isFirst
   stood all x old new = rw (eq-eqb (key x) (key x) refl) (go (isIn key x all))
     where
       go : (b : Bool) → cond (b && false) 1 0 + movedAmong key all old new ≡ movedAmong key all old new
@@ -51,13 +51,13 @@ module _ {A : Type 0} (key : A → ℕ) where
 
   -- an element that is still there, and not here
   left-place : (all : List A) (x : A) (old new : List A) → isIn key x all ≡ true → isFirst key x new ≡ false
-      → movedAmong key all (x ∷ old) new ≡ suc (movedAmong key all old (beyond key new))
+      → movedAmong key all (x ∷ old) new ≡ suc (movedAmong key all old (tail new))
   unfolding movedAmong
   left-place all x old new there away = rw (there, away) (omega arith)
 
   -- an element that is gone
   went : (all : List A) (x : A) (old new : List A) → isIn key x all ≡ false
-      → movedAmong key all (x ∷ old) new ≡ movedAmong key all old (beyond key new)
+      → movedAmong key all (x ∷ old) new ≡ movedAmong key all old (tail new)
   unfolding movedAmong
   went all x old new gone = rw gone (omega arith)
 
@@ -65,7 +65,7 @@ module _ {A : Type 0} (key : A → ℕ) where
 
   -- against a list that has one more in front, everything has moved
   pushed : (all : List A) (a : A) (xs : List A) → Asc key (a ∷ xs) → Among all xs → movedAmong key all xs (a ∷ xs) ≡ length xs
-  unfolding movedAmong isFirst beyond
+  unfolding movedAmong isFirst
   pushed all a [] asc am = refl
   pushed all a (x ∷ xs) asc am =
       left-place all x xs (a ∷ x ∷ xs) (first am) (ne-eqb (key a) (key x) (λ e. omega (arith, first (asc .0))))
@@ -120,10 +120,9 @@ module _ {A : Type 0} (key : A → ℕ) where
       go true ab = (first (asc .0), ab)
       go false ab = above-down x (y ∷ ys) (kept p ys) asc ab
 
-  above-beyond : (x : A) (old new : List A) → Above (x ∷ old) new → Above old (beyond key new)
-  unfolding beyond
-  above-beyond x old [] ab = tt
-  above-beyond x old (n ∷ new) ab = ab .1
+  above-tail : (x : A) (old new : List A) → Above (x ∷ old) new → Above old (tail new)
+  above-tail x old [] ab = tt
+  above-tail x old (n ∷ new) ab = ab .1
 
   above-away : (x : A) (old new : List A) → Above (x ∷ old) new → isFirst key x new ≡ false
   unfolding isFirst
@@ -136,9 +135,9 @@ module _ {A : Type 0} (key : A → ℕ) where
   unfolding movedAmong shifted
   behind p all [] new there ab = refl
   behind p all (x ∷ old) new there ab =
-      go (p x) refl (behind p all old (beyond key new) (rest there) (above-beyond x old new ab))
+      go (p x) refl (behind p all old (tail new) (rest there) (above-tail x old new ab))
     where
-      go : (b : Bool) → p x ≡ b → movedAmong key all old (beyond key new) ≡ shifted p true old
+      go : (b : Bool) → p x ≡ b → movedAmong key all old (tail new) ≡ shifted p true old
           → movedAmong key all (x ∷ old) new ≡ cond b (1 + shifted p true old) (shifted p true old)
       go true e ih = left-place all x old new (first there ∙ e) (above-away x old new ab) ∙ omega arith
       go false e ih = went all x old new (first there ∙ e) ∙ ih
@@ -154,7 +153,7 @@ module _ {A : Type 0} (key : A → ℕ) where
       go true e ih = stood all x xs (kept p xs) ∙ omega arith
       go false e ih =
           went all x xs (kept p xs) (first there ∙ e)
-          ∙ behind p all xs (beyond key (kept p xs)) (rest there) (above-beyond x xs (kept p xs) (above-kept p x xs asc))
+          ∙ behind p all xs (tail (kept p xs)) (rest there) (above-tail x xs (kept p xs) (above-kept p x xs asc))
 
   -- what passes is still there, and nothing else
   in-kept : (p : A → Bool) (xs : List A) → Asc key xs → Each (λ x. isIn key x (kept p xs) ≡ p x) xs

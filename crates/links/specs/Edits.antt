@@ -3,7 +3,7 @@
 use Prim.Native.Nat.{ℕ, _+_}
 use mathlib.Core.Path.{_≡_}
 use mathlib.Core.Bool.{Bool, false, cond, not, _&&_, _||_}
-use mathlib.Core.List.{List, [], _∷_}
+use mathlib.Core.List.{List, [], _∷_, tail}
 use lib.ListN.{length}
 use lib.Dec.{eqb, ltb, leb}
 use Rattle.answers.specs.Answers.{Check, refusal, Outcome, answered}
@@ -34,15 +34,10 @@ module _ {A : Type 0} (key : A → ℕ) where
   isFirst a [] = false
   isFirst a (x ∷ xs) = eqb (key x) (key a)
 
-  -- The list from its second place on.
-  unfoldable pub beyond : List A → List A
-  beyond [] = []
-  beyond (x ∷ xs) = xs
-
   -- Old and new, place by place: an element of the old list that is in all of the new one, and not at this place, has moved.
   unfoldable pub movedAmong : List A → List A → List A → ℕ
   movedAmong all [] new = 0
-  movedAmong all (x ∷ old) new = cond (isIn x all && not (isFirst x new)) 1 0 + movedAmong all old (beyond new)
+  movedAmong all (x ∷ old) new = cond (isIn x all && not (isFirst x new)) 1 0 + movedAmong all old (tail new)
 
   -- "How many surviving links stand at another place than before".
   unfoldable pub moved : List A → List A → ℕ

@@ -1,7 +1,7 @@
 // Document 01, "Links and telegrams": the links of an address, where they stand and of which class they are.
 // Links of one address stand together, so two searches bound them and the first of them tells the class.
 
-ghost use Prim.Native.Nat.{_-_, _≤_};
+ghost use Prim.Native.Nat.{_≤_};
 ghost use mathlib.Core.Path.{_≡_};
 ghost use mathlib.Core.Bool.{true};
 ghost use Rattle.links.specs.Links.{lastAddress, heldOf, addressClass};
@@ -42,14 +42,13 @@ impl Found {
         }
     }
 
-    fn span(start: usize, end: usize) -> Found
-        requires { ⌜ start ≤ end ⌝ }
-        ensures { λ r. ⌜ r ≡ record { answer = 0; start = start; count = end - start } ⌝ }
+    fn at(start: usize, count: usize) -> Found
+        ensures { λ r. ⌜ r ≡ record { answer = 0; start = start; count = count } ⌝ }
     {
         Found {
             answer: DONE,
             start: start,
-            count: end - start,
+            count: count,
         }
     }
 }
@@ -99,7 +98,7 @@ impl Table {
         if end <= start {
             return Found::refused(NO_LINK);
         }
-        Found::span(start, end)
+        Found::at(start, end - start)
     }
 
     // The class of the links of an address; 5 where it has none.

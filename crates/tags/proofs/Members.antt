@@ -14,24 +14,23 @@ use borrow.Author.Tests.{lt-ltb, le-ltb, eqb-true, eqb-false}
 use Rattle.tags.specs.Tags.{TagSet, member, none, put, taken, howMany, lowestFree}
 use Rattle.tags.proofs.Digits.{digit, digit-first, digit-next, digit-small, digit-or, digit-and, digit-none, digit-power, digit-not, digit-past, digits-decide}
 
--- membership is the digit, read as a truth value
+-- membership is the digit, read as a truth value: what holds of 0 and of 1 holds of a digit
+digit-cases : (P : ℕ → Type 0) → P 0 → P 1 → (x : ℕ) → x ≤ 1 → P x
+digit-cases P p q zero h = p
+digit-cases P p q (suc zero) h = q
+digit-cases P p q (suc (suc x)) h = absurd (omega arith)
+
 bit-or : (x y : ℕ) → x ≤ 1 → y ≤ 1 → eqb (max x y) 1 ≡ eqb x 1 || eqb y 1
-bit-or zero zero h i = refl
-bit-or zero (suc zero) h i = refl
-bit-or zero (suc (suc y)) h i = absurd (omega arith)
-bit-or (suc zero) zero h i = refl
-bit-or (suc zero) (suc zero) h i = refl
-bit-or (suc zero) (suc (suc y)) h i = absurd (omega arith)
-bit-or (suc (suc x)) y h i = absurd (omega arith)
+bit-or x y h i =
+    digit-cases (λ a. eqb (max a y) 1 ≡ eqb a 1 || eqb y 1)
+    (digit-cases (λ b. eqb (max 0 b) 1 ≡ eqb b 1) refl refl y i)
+    (digit-cases (λ b. eqb (max 1 b) 1 ≡ true) refl refl y i) x h
 
 bit-and-not : (x y : ℕ) → x ≤ 1 → y ≤ 1 → eqb (min x (1 - y)) 1 ≡ not (eqb y 1) && eqb x 1
-bit-and-not zero zero h i = refl
-bit-and-not zero (suc zero) h i = refl
-bit-and-not zero (suc (suc y)) h i = absurd (omega arith)
-bit-and-not (suc zero) zero h i = refl
-bit-and-not (suc zero) (suc zero) h i = refl
-bit-and-not (suc zero) (suc (suc y)) h i = absurd (omega arith)
-bit-and-not (suc (suc x)) y h i = absurd (omega arith)
+bit-and-not x y h i =
+    digit-cases (λ a. eqb (min a (1 - y)) 1 ≡ not (eqb y 1) && eqb a 1)
+    (digit-cases (λ b. eqb (min 0 (1 - b)) 1 ≡ not (eqb b 1) && false) refl refl y i)
+    (digit-cases (λ b. eqb (min 1 (1 - b)) 1 ≡ not (eqb b 1) && true) refl refl y i) x h
 
 bit-power : (b : Bool) → eqb (cond b 1 0) 1 ≡ b
 bit-power true = refl
@@ -117,9 +116,7 @@ ones-count (suc n) w h =
     (ones-count n (w / 2) (omega (arith, pow-suc 2 n)) ∙ ap (howMany n) (fun-ext (λ k. ap (λ (x : ℕ). eqb x 1) (sym (digit-next w k)))))
   where
     lowest : (x : ℕ) → x ≤ 1 → cond (eqb x 1) 1 0 ≡ x
-    lowest zero i = refl
-    lowest (suc zero) i = refl
-    lowest (suc (suc x)) i = absurd (omega arith)
+    lowest = digit-cases (λ x. cond (eqb x 1) 1 0 ≡ x) refl refl
 
 -- the trailing zeros of the complement count up to the lowest number that is no member
 pub zeros-lowest : (n w : ℕ) → w < 2 ^ n → trailingZeros n (2 ^ n - 1 - w) ≡ lowestFree n (member w)
@@ -134,9 +131,7 @@ zeros-lowest (suc n) w h =
     ∙ ap (λ (x : ℕ). cond (eqb x 1) (suc (lowestFree n (λ k. member w (suc k)))) zero) (sym (digit-first w))
   where
     lowest : (x : ℕ) → x ≤ 1 → (f : ℕ) → under (1 - x) f ≡ cond (eqb x 1) (suc f) zero
-    lowest zero i f = refl
-    lowest (suc zero) i f = refl
-    lowest (suc (suc x)) i f = absurd (omega arith)
+    lowest = digit-cases (λ x. (f : ℕ) → under (1 - x) f ≡ cond (eqb x 1) (suc f) zero) (λ f. refl) (λ f. refl)
 
 -- words of n digits with the same members are the same word
 pub members-decide : (n v w : ℕ) → v < 2 ^ n → w < 2 ^ n → member v ≡ member w → v ≡ w

@@ -31,7 +31,7 @@ returns-3 c =
 returns-4 : tie.Need-returns-4
 returns-4 c =
     let at = c .before .before .before in
-    ap foundOf (c .span .ensures)
+    ap foundOf (c .at .ensures)
     ∙ sym (searched-some _ _ (sound (at .before .before)) (at .below .ensures) (c .before .before .below2 .ensures) (c .before .if3 .left))
 
 pub find-spec : {M : Type 1} → statement M
@@ -50,5 +50,6 @@ find-spec =
     (λ c κs. sound (c .before .before))
     (λ c κs. search needs)
     returns-3
+    (λ c. search needs)
     (λ c κs. search needs)
     returns-4)
