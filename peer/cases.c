@@ -1,0 +1,300 @@
+/* The numbered cases of document 01 by the peer's calls: one line for each,
+   name, tab, `same` or `differs`. */
+
+#include "panel.h"
+
+#include <stdio.h>
+
+static struct panel panel;
+static uint16_t reports[TAGS];
+static int same;
+
+static void expect(int holds)
+{
+    same = same && holds;
+}
+
+/* "each kind on its own address" */
+static uint64_t address_of(uint64_t kind)
+{
+    return 1000 + kind;
+}
+
+static struct blind *blind(void)
+{
+    return &panel.blinds[5];
+}
+
+/* "Blind 5 at terminal 9, defaults, fresh, each kind on its own address" */
+static void begin(void)
+{
+    same = 1;
+    panel = empty_panel();
+    expect(install(&panel, 5, 9, default_parameters).number == DONE);
+    for (uint64_t kind = WA; kind <= SAPBP; kind++)
+        expect(add_link(&panel, address_of(kind), 5, kind).number == DONE);
+}
+
+static void send(uint64_t kind, uint64_t value)
+{
+    struct answer answer = telegram(&panel, address_of(kind), value, reports, TAGS);
+    expect(answer.number == DONE && answer.count == 1);
+}
+
+static void pass(uint64_t dt)
+{
+    struct answer answer = time_step(&panel, dt, reports, TAGS);
+    expect(answer.number == DONE && answer.count == 0);
+}
+
+static uint64_t motor(uint64_t terminal)
+{
+    uint16_t cells[TERMINALS];
+    struct answer answer = strip_reading(&panel, cells, TERMINALS);
+    expect(answer.number == DONE && answer.count == 0);
+    return cells[terminal];
+}
+
+static void expect_motor(uint64_t command)
+{
+    expect(motor(9) == command);
+}
+
+static void expect_report(uint64_t cell)
+{
+    for (uint64_t tag = 0; tag < TAGS; tag++)
+        expect(reports[tag] == (tag == 5 ? cell : 512));
+}
+
+static void expect_waits(uint64_t direction)
+{
+    expect(blind()->motion == WAITING && blind()->direction == direction);
+}
+
+static void expect_at_rest(void)
+{
+    expect(blind()->motion == AT_REST);
+}
+
+static int same_blind(const struct blind *a, const struct blind *b)
+{
+    return a->present == b->present && a->valid == b->valid && a->wind == b->wind
+        && a->rain == b->rain && a->frost == b->frost && a->forced == b->forced
+        && a->last == b->last && a->motion == b->motion
+        && a->direction == b->direction && a->sort == b->sort
+        && a->length == b->length && a->rest == b->rest
+        && a->position == b->position && a->terminal == b->terminal
+        && a->parameters.mudt == b->parameters.mudt
+        && a->parameters.sst == b->parameters.sst
+        && a->parameters.rpt == b->parameters.rpt
+        && a->parameters.rwa == b->parameters.rwa
+        && a->parameters.rra == b->parameters.rra
+        && a->parameters.rfa == b->parameters.rfa;
+}
+
+/* "MUD 0, then 499 ms: off. 1 ms more: up." */
+static void w1(void)
+{
+    begin();
+    send(MUD, 0);
+    pass(499);
+    expect_motor(NEITHER);
+    pass(1);
+    expect_motor(UP);
+}
+
+/* "from W1, 59,999 ms: up. 1 ms more: off, report 256." */
+static void w2(void)
+{
+    w1();
+    pass(59999);
+    expect_motor(UP);
+    pass(1);
+    expect_motor(NEITHER);
+    expect_report(256);
+}
+
+/* "then SAPBP 128 at once: off; 500 ms: down; 30,117 ms: off, report 383." */
+static void w3(void)
+{
+    w2();
+    send(SAPBP, 128);
+    expect_motor(NEITHER);
+    pass(500);
+    expect_motor(DOWN);
+    pass(30116);
+    expect_motor(DOWN);
+    pass(1);
+    expect_motor(NEITHER);
+    expect_report(383);
+}
+
+/* "running up, MUD 1: off; 499 ms: off; 1 ms: down." */
+static void w4(void)
+{
+    w1();
+    send(MUD, 1);
+    expect_motor(NEITHER);
+    pass(499);
+    expect_motor(NEITHER);
+    pass(1);
+    expect_motor(DOWN);
+}
+
+/* "full run down, SSUD 0: off, nothing waits." */
+static void w5(void)
+{
+    begin();
+    send(MUD, 1);
+    pass(500);
+    expect_motor(DOWN);
+    send(SSUD, 0);
+    expect_motor(NEITHER);
+    expect_at_rest();
+}
+
+/* "last direction up, rest time 0, SSUD 0: up; 200 ms: off." */
+static void w6(void)
+{
+    w1();
+    send(STOP, 0);
+    pass(500);
+    expect(blind()->last == UP && blind()->rest == 0);
+    send(SSUD, 0);
+    expect_motor(UP);
+    pass(199);
+    expect_motor(UP);
+    pass(1);
+    expect_motor(NEITHER);
+}
+
+/* "fresh, SAPBP 100: answer 0, still at rest." */
+static void w7(void)
+{
+    begin();
+    send(SAPBP, 100);
+    expect_motor(NEITHER);
+    expect_at_rest();
+}
+
+/* "fresh, WA 1, MUD 1: an up run waits. WA 0: at rest, report 0." */
+static void w8(void)
+{
+    begin();
+    send(WA, 1);
+    send(MUD, 1);
+    expect_waits(UP);
+    send(WA, 0);
+    expect_at_rest();
+    expect_report(0);
+}
+
+/* "FA 1: the flag is set, nothing else changes." */
+static void w9(void)
+{
+    begin();
+    struct blind before = *blind();
+    send(FA, 1);
+    expect(blind()->frost == 1);
+    before.frost = 1;
+    expect(same_blind(blind(), &before));
+}
+
+/* "running down under FO 3, WA 1: off, up waits. WA 0 in the same instant:
+   down, full length." */
+static void w10(void)
+{
+    begin();
+    send(FO, 3);
+    pass(500);
+    pass(1234);
+    expect_motor(DOWN);
+    send(WA, 1);
+    expect_motor(NEITHER);
+    expect_waits(UP);
+    send(WA, 0);
+    expect_motor(DOWN);
+    expect(blind()->sort == FULL_RUN && blind()->length == 60000);
+}
+
+/* "not busy, splice in 2 at 9: terminal 11; a blind at 8 stays." */
+static void w11(void)
+{
+    begin();
+    expect(install(&panel, 3, 8, default_parameters).number == DONE);
+    pass(500);
+    expect(splice_in(&panel, 9, 2).number == DONE);
+    expect(blind()->terminal == 11);
+    expect(panel.blinds[3].terminal == 8);
+}
+
+/* "not busy, splice in at 9: n = 118 gives terminal 127; instead, 119 is
+   answered 9 and 120 is answered 1. A fresh blind, still in its first pause:
+   119 is answered 3." */
+static void w12(void)
+{
+    begin();
+    expect(splice_in(&panel, 9, 119).number == BUSY);
+    pass(500);
+    expect(splice_in(&panel, 9, 119).number == WOULD_PASS_127);
+    expect(splice_in(&panel, 9, 120).number == OUTSIDE_ITS_RANGE);
+    expect(splice_in(&panel, 9, 118).number == DONE);
+    expect(blind()->terminal == 127);
+}
+
+/* "link 512 is accepted, 513 answers 7, and after a removal one more is
+   accepted." */
+static void r1(void)
+{
+    same = 1;
+    panel = empty_panel();
+    expect(install(&panel, 5, 9, default_parameters).number == DONE);
+    for (uint64_t address = 1; address <= 512; address++)
+        expect(add_link(&panel, address, 5, MUD).number == DONE);
+    expect(add_link(&panel, 513, 5, MUD).number == LINKS_ALREADY_512);
+    struct answer answer = remove_link(&panel, 1, 5, MUD);
+    expect(answer.number == DONE && answer.count == 511);
+    expect(add_link(&panel, 513, 5, MUD).number == DONE);
+    expect(add_link(&panel, 514, 5, MUD).number == LINKS_ALREADY_512);
+}
+
+/* "dt 60,000 answers 0 and 60,001 answers 1." */
+static void r2(void)
+{
+    begin();
+    expect(time_step(&panel, 60000, reports, TAGS).number == DONE);
+    expect(time_step(&panel, 60001, reports, TAGS).number == OUTSIDE_ITS_RANGE);
+}
+
+/* "MUD and STOP on one address, blind not busy: no report, rest time
+   RPT." */
+static void r3(void)
+{
+    begin();
+    expect(add_link(&panel, 7, 5, MUD).number == DONE);
+    expect(add_link(&panel, 7, 5, STOP).number == DONE);
+    pass(500);
+    struct answer answer = telegram(&panel, 7, 0, reports, TAGS);
+    expect(answer.number == DONE && answer.count == 2);
+    expect_report(512);
+    expect_at_rest();
+    expect(blind()->rest == 500);
+}
+
+int main(void)
+{
+    static const struct {
+        const char *name;
+        void (*run)(void);
+    } cases[] = {
+        { "W1", w1 }, { "W2", w2 }, { "W3", w3 }, { "W4", w4 }, { "W5", w5 },
+        { "W6", w6 }, { "W7", w7 }, { "W8", w8 }, { "W9", w9 },
+        { "W10", w10 }, { "W11", w11 }, { "W12", w12 },
+        { "R1", r1 }, { "R2", r2 }, { "R3", r3 },
+    };
+    for (size_t i = 0; i < sizeof cases / sizeof cases[0]; i++) {
+        cases[i].run();
+        printf("%s\t%s\n", cases[i].name, same ? "same" : "differs");
+    }
+    return 0;
+}

@@ -1,0 +1,238 @@
+/* What a script cannot show: answer 11 for each wrong number of lent cells,
+   and answer 12 for each clause of the paragraph "Sound", by every call that
+   takes a panel, in the order 11, 12, 1, with panel and cells untouched. */
+
+#include "panel.h"
+
+#include <stdio.h>
+#include <string.h>
+
+static int checks, wrong;
+
+static void expect(int holds, const char *what)
+{
+    checks += 1;
+    if (!holds) {
+        wrong += 1;
+        printf("wrong: %s\n", what);
+    }
+}
+
+/* ---- A sound panel with all sorts of blinds -------------------------- */
+
+/* Blind 1 rests, 2 runs a full run up, 3 waits for a full run down, 4 runs a
+   step, 5 waits for a step, 6 runs to a position, 7 waits for one. */
+static struct panel sound_panel(void)
+{
+    uint16_t cells[TAGS];
+    struct parameters p = { 2000, 300, 400, 1, 2, 3 };
+    struct panel panel = empty_panel();
+    for (uint64_t tag = 1; tag <= 7; tag++) {
+        install(&panel, tag, 10 * tag, p);
+        add_link(&panel, 100, tag, MUD);
+        add_link(&panel, 100 + tag, tag, MUD);
+        add_link(&panel, 200 + tag, tag, SSUD);
+        add_link(&panel, 300 + tag, tag, SAPBP);
+        add_link(&panel, 400 + tag, tag, FO);
+    }
+    telegram(&panel, 100, 0, cells, TAGS);
+    time_step(&panel, 400 + 2000, cells, TAGS);
+    /* all at position 0, valid, last direction up, rest time RPT */
+    telegram(&panel, 103, 1, cells, TAGS);
+    telegram(&panel, 205, 1, cells, TAGS);
+    telegram(&panel, 307, 100, cells, TAGS);
+    time_step(&panel, 10, cells, TAGS);
+    panel.blinds[1].rest = 0;
+    telegram(&panel, 102, 0, cells, TAGS);
+    telegram(&panel, 204, 0, cells, TAGS);
+    panel.blinds[6].position = 1500;
+    telegram(&panel, 306, 10, cells, TAGS);
+    return panel;
+}
+
+/* ---- Every call that takes a panel ----------------------------------- */
+
+static const uint64_t huge = UINT64_MAX;
+
+/* Whether every call answers 12, counts 0, also with arguments that would
+   be answered 1, and leaves the panel as it is. */
+static void expect_12_everywhere(const struct panel *damaged, const char *what)
+{
+    static struct panel panel;
+    uint16_t cells[TERMINALS], kept[TERMINALS];
+    struct parameters none = { 0, 0, 0, 9, 9, 9 };
+    struct answer answers[18];
+    size_t n = 0;
+    memcpy(&panel, damaged, sizeof panel);
+    memset(cells, 0xa5, sizeof cells);
+    memcpy(kept, cells, sizeof kept);
+    answers[n++] = install(&panel, 20, 100, default_parameters);
+    answers[n++] = install(&panel, huge, huge, none);
+    answers[n++] = remove_blind(&panel, 1);
+    answers[n++] = remove_blind(&panel, huge);
+    answers[n++] = write_parameters(&panel, 1, default_parameters);
+    answers[n++] = write_parameters(&panel, huge, none);
+    answers[n++] = add_link(&panel, 500, 1, MUD);
+    answers[n++] = add_link(&panel, huge, huge, huge);
+    answers[n++] = remove_link(&panel, 100, 1, MUD);
+    answers[n++] = remove_link(&panel, huge, huge, huge);
+    answers[n++] = splice_in(&panel, 127, 1);
+    answers[n++] = splice_in(&panel, huge, huge);
+    answers[n++] = splice_out(&panel, 127, 1);
+    answers[n++] = splice_out(&panel, huge, huge);
+    answers[n++] = telegram(&panel, 100, 0, cells, TAGS);
+    answers[n++] = telegram(&panel, huge, huge, cells, TAGS);
+    answers[n++] = time_step(&panel, huge, cells, TAGS);
+    answers[n++] = strip_reading(&panel, cells, TERMINALS);
+    for (size_t i = 0; i < n; i++)
+        expect(answers[i].number == NOT_A_SOUND_PANEL && answers[i].count == 0, what);
+    struct inventory inv = inventory(&panel);
+    expect(inv.number == NOT_A_SOUND_PANEL && inv.blinds == 0
+           && inv.lowest_free_tag == 0, what);
+    expect(memcmp(&panel, damaged, sizeof panel) == 0, what);
+    expect(memcmp(cells, kept, sizeof cells) == 0, what);
+    expect(telegram(&panel, huge, huge, cells, TERMINALS).number
+           == NOT_EXACTLY_THE_CELLS, what);
+    expect(time_step(&panel, huge, cells, 0).number == NOT_EXACTLY_THE_CELLS, what);
+    expect(strip_reading(&panel, cells, TAGS).number == NOT_EXACTLY_THE_CELLS, what);
+}
+
+/* A sound panel with one thing changed is not sound. */
+#define DAMAGE(what)                                                        \
+    do {                                                                    \
+        static struct panel p;                                              \
+        p = sound_panel();                                                  \
+        what;                                                               \
+        expect(!is_sound(&p), #what);                                       \
+        expect_12_everywhere(&p, #what);                                    \
+    } while (0)
+
+/* A sound panel with one thing changed is still sound. */
+#define HARMLESS(what)                                                      \
+    do {                                                                    \
+        static struct panel p;                                              \
+        p = sound_panel();                                                  \
+        what;                                                               \
+        expect(is_sound(&p), #what);                                        \
+    } while (0)
+
+static void links(void)
+{
+    DAMAGE(p.link_count = 513);
+    DAMAGE(p.link_count = UINT64_MAX);
+    DAMAGE(p.links[0].address = 0);
+    DAMAGE(p.links[34].kind = 8);
+    DAMAGE(p.links[34].kind = 255);
+    DAMAGE(p.links[0].tag = 8);
+    DAMAGE(p.links[34].tag = 64);
+    DAMAGE(p.links[34].tag = 255);
+    DAMAGE(p.links[1] = p.links[0]);
+    DAMAGE(p.links[1].tag = 1; p.links[0].tag = 2);
+    DAMAGE(p.links[33].address = 408);
+    DAMAGE(p.links[1].kind = FO);
+    DAMAGE(p.links[6].kind = SAPBP);
+    DAMAGE(p.link_count = 36);
+    DAMAGE(p.blinds[7].present = 0);
+    HARMLESS(p.links[1].kind = STOP);
+    HARMLESS(p.links[1].kind = WA);
+    HARMLESS(p.links[100].kind = 99);
+    HARMLESS(p.link_count = 0);
+}
+
+static void terminals_and_parameters(void)
+{
+    DAMAGE(p.blinds[1].terminal = 20);
+    DAMAGE(p.blinds[1].terminal = 128);
+    DAMAGE(p.blinds[1].terminal = UINT64_MAX);
+    DAMAGE(p.blinds[1].parameters.mudt = 999; p.blinds[1].parameters.sst = 1);
+    DAMAGE(p.blinds[1].parameters.mudt = 600001);
+    DAMAGE(p.blinds[1].parameters.sst = 0);
+    DAMAGE(p.blinds[1].parameters.sst = 2001);
+    DAMAGE(p.blinds[1].parameters.mudt = 600000; p.blinds[1].parameters.sst = 10001);
+    DAMAGE(p.blinds[1].parameters.rpt = 99);
+    DAMAGE(p.blinds[1].parameters.rpt = 10001);
+    DAMAGE(p.blinds[1].parameters.rwa = 4);
+    DAMAGE(p.blinds[1].parameters.rra = 4);
+    DAMAGE(p.blinds[1].parameters.rfa = 4);
+    DAMAGE(p.blinds[1].position = 2001);
+    HARMLESS(p.blinds[1].terminal = 127);
+    HARMLESS(p.blinds[1].parameters.sst = 2000);
+    HARMLESS(p.blinds[1].position = 2000);
+    HARMLESS(p.blinds[40].terminal = 20);
+    HARMLESS(p.blinds[40].parameters.rwa = 4);
+}
+
+static void runs_and_waits(void)
+{
+    DAMAGE(p.blinds[1].rest = 401);
+    DAMAGE(p.blinds[3].rest = 401);
+    DAMAGE(p.blinds[2].length = 0);
+    DAMAGE(p.blinds[2].length = 2001);
+    DAMAGE(p.blinds[2].rest = 1);
+    DAMAGE(p.blinds[2].last = DOWN);
+    DAMAGE(p.blinds[2].last = NEITHER);
+    DAMAGE(p.blinds[3].length = 1999);
+    DAMAGE(p.blinds[3].length = 0);
+    DAMAGE(p.blinds[3].length = 2001);
+    DAMAGE(p.blinds[3].rest = 0);
+    DAMAGE(p.blinds[3].last = DOWN);
+    DAMAGE(p.blinds[4].length = 301);
+    DAMAGE(p.blinds[4].length = 0);
+    DAMAGE(p.blinds[5].length = 299);
+    DAMAGE(p.blinds[5].length = 301);
+    DAMAGE(p.blinds[5].rest = 0);
+    DAMAGE(p.blinds[6].length = 2001);
+    DAMAGE(p.blinds[7].length = 0);
+    DAMAGE(p.blinds[7].length = 2001);
+    DAMAGE(p.blinds[7].last = DOWN);
+    DAMAGE(p.blinds[1].present = 2);
+    DAMAGE(p.blinds[1].valid = 2);
+    DAMAGE(p.blinds[1].wind = 2);
+    DAMAGE(p.blinds[1].rain = 2);
+    DAMAGE(p.blinds[1].frost = 2);
+    DAMAGE(p.blinds[1].forced = 3);
+    DAMAGE(p.blinds[1].last = 3);
+    DAMAGE(p.blinds[1].motion = 3);
+    DAMAGE(p.blinds[2].direction = NEITHER; p.blinds[2].last = NEITHER);
+    DAMAGE(p.blinds[3].direction = 3);
+    DAMAGE(p.blinds[6].sort = 3);
+    HARMLESS(p.blinds[1].rest = 400);
+    HARMLESS(p.blinds[2].length = 1);
+    HARMLESS(p.blinds[3].last = NEITHER);
+    HARMLESS(p.blinds[4].length = 1);
+    HARMLESS(p.blinds[6].length = 2000);
+    HARMLESS(p.blinds[7].length = 2000);
+    HARMLESS(p.blinds[2].length = 1; p.blinds[2].position = 1000);
+}
+
+static void cells_lent(void)
+{
+    static const uint64_t lent[] = { 0, 1, 63, 64, 65, 127, 128, 129, UINT64_MAX };
+    static struct panel panel, before;
+    uint16_t cells[TERMINALS];
+    panel = before = sound_panel();
+    for (size_t i = 0; i < sizeof lent / sizeof lent[0]; i++) {
+        uint64_t for_tags = lent[i] == 64 ? OUTSIDE_ITS_RANGE : NOT_EXACTLY_THE_CELLS;
+        uint64_t for_strip = lent[i] == 128 ? DONE : NOT_EXACTLY_THE_CELLS;
+        expect(telegram(&panel, 0, 0, cells, lent[i]).number == for_tags, "tel cells");
+        expect(time_step(&panel, 60001, cells, lent[i]).number == for_tags, "time cells");
+        expect(strip_reading(&panel, cells, lent[i]).number == for_strip, "strip cells");
+    }
+    expect(memcmp(&panel, &before, sizeof panel) == 0, "panel after refusals");
+}
+
+int main(void)
+{
+    struct panel panel = sound_panel();
+    expect(is_sound(&panel) && panel.link_count == 35, "the panel to damage");
+    for (uint64_t tag = 1; tag <= 7; tag++)
+        expect(panel.blinds[tag].motion == (tag == 1 ? AT_REST : tag % 2 ? WAITING : RUNNING)
+               && panel.blinds[tag].sort == (tag < 4 ? FULL_RUN : tag < 6 ? STEP : TO_POSITION),
+               "the panel to damage");
+    links();
+    terminals_and_parameters();
+    runs_and_waits();
+    cells_lent();
+    printf("%d checks, %d wrong\n", checks, wrong);
+    return wrong != 0;
+}
