@@ -177,8 +177,7 @@ pub taken-out : (p : Panel) (tag : ℕ) (present : Tags) (edited : Edited) → i
 unfolding seatsOf
 taken-out p tag present edited sound word told =
     let all : editedOf edited ≡ record { answer = 0; count = moved keyOf (heldOf (p .table) .links) (dropped tag (heldOf (p .table) .links)); leaves = holding (dropped tag (heldOf (p .table) .links)) } =
-    told ∙ tag-done (heldOf (p .table)) tag (table-sound (modelOf p) sound) in
-    (
+    told ∙ tag-done (heldOf (p .table)) tag (table-sound (modelOf p) sound) in (
       ap (λ (o : Outcome Held). o .count) all,
       ap₂ (λ (m : Model) (h : Held). relinked h m) (seat-taken p present tag word) (ap (λ (o : Outcome Held). o .leaves) all),
     )

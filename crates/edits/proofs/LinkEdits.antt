@@ -7,7 +7,7 @@ use mathlib.Core.List.{List, [], _∷_}
 use lib.Dec.{eqb, leb}
 use borrow.Author.Tests.{not-false}
 use Rattle.answers.specs.Answers.{Check, refusal, Outcome, answered}
-use Rattle.answers.proofs.Refusals.{refused-by, passed-by, all-passed, none-left}
+use Rattle.answers.proofs.Refusals.{refused-by, passed-by, all-passed, none-left, answers}
 use Rattle.links.specs.declared.link.Link.{Link}
 use Rattle.links.specs.Links.{inRange, keyOf, Held, holding}
 use Rattle.links.specs.Sound as ofLinks
@@ -76,24 +76,39 @@ module _ (l : Link) (m : Model) where
       go true true true e = absurd (some e)
 
   pub added-on : Ready → onPanel (added l (m .table)) m ≡ linkAdded l m
-  unfolding added linkAdded
+  unfolding added linkAdded table.addChecks addChecks
   added-on ok = on-panel _ m _ _ ∙ ap (λ (k : ℕ). answered k m _ _) (by-table ∙ sym by-panel)
     where
       by-table : refusal (table.unsound (m .table) ∷ table.addChecks l (m .table)) ≡ refusal tableChecks
-      unfolding table.addChecks
       by-table = passed-by _ 12 _ (ap not (table-sound m (ok .sound))) ∙ passed-by _ 1 _ (ap not (ok .range))
 
       by-panel : refusal (addChecks l m) ≡ refusal tableChecks
-      unfolding addChecks
       by-panel = own-checks m _ _ (ok .sound) (ap not (ok .range)) ∙ passed-by _ 2 _ (ap not (ok .there))
 
   pub removed-on : isSound m ≡ true → inRange l ≡ true → onPanel (removed l (m .table)) m ≡ linkRemoved l m
-  unfolding removed linkRemoved
+  unfolding removed linkRemoved removeLinkChecks
   removed-on sound range = on-panel _ m _ _ ∙ ap (λ (k : ℕ). answered k m _ _) (by-table ∙ sym by-panel)
     where
       by-table : refusal (table.unsound (m .table) ∷ (not (isIn keyOf l (m .table .links)), 5) ∷ []) ≡ refusal ((not (isIn keyOf l (m .table .links)), 5) ∷ [])
       by-table = passed-by _ 12 _ (ap not (table-sound m sound))
 
       by-panel : refusal (removeLinkChecks l m) ≡ refusal ((not (isIn keyOf l (m .table .links)), 5) ∷ [])
-      unfolding removeLinkChecks
       by-panel = own-checks m _ _ sound (ap not range)
+
+  -- ---- what is so of an accepted call
+
+  pub add-ready : linkAdded l m .answer ≡ 0 → Ready
+  unfolding linkAdded addChecks
+  add-ready e =
+      let all = passed m (not (inRange l)) ((not (presentIn m (l .tag)), 2) ∷ tableChecks) (sym (answers _ _ _ _) ∙ e) in
+      record { sound = all .0; range = not-false (inRange l) (all .1); there = not-false (presentIn m (l .tag)) (all-passed _ 1 tableChecks (all .2) .0) }
+
+  pub remove-checked : refusal (removeLinkChecks l m) ≡ 0 → (isSound m ≡ true) × (inRange l ≡ true)
+  unfolding removeLinkChecks
+  remove-checked e =
+      let all = passed m (not (inRange l)) ((not (isIn keyOf l (m .table .links)), 5) ∷ []) e in
+      (all .0, not-false (inRange l) (all .1))
+
+  pub remove-ready : linkRemoved l m .answer ≡ 0 → (isSound m ≡ true) × (inRange l ≡ true)
+  unfolding linkRemoved
+  remove-ready e = remove-checked (sym (answers _ _ _ _) ∙ e)

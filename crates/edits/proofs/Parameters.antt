@@ -22,7 +22,6 @@ unfolding paramsOf askedOf reactionOf
 asked-back p = go (p .rwa) (p .rra) (p .rfa)
   where
     back : (r : Reaction) → reactionOf (numberOf r) ≡ r
-    unfolding reactionOf
     back Reaction.Ignore = refl
     back Reaction.Up = refl
     back Reaction.Down = refl
@@ -57,10 +56,10 @@ narrow-wide n h = rw (lt-leb n 4294967295 h)
 
 -- no range has 0, and none has a time that does not fit: narrowed or not, a time is in the range or it is not
 narrow-within : (least most n : ℕ) → 1 ≤ least → most ≤ 4294967295 → within least most (narrow n) ≡ within least most n
+unfolding within
 narrow-within least most n low high = go (decLe n 4294967295)
   where
     wide : 4294967295 < n → within least most n ≡ false
-    unfolding within
     wide h = rw (lt-leb n most (omega arith)) (and-false (leb least n))
       where
         and-false : (b : Bool) → b && false ≡ false
@@ -68,7 +67,6 @@ narrow-within least most n low high = go (decLe n 4294967295)
         and-false false = refl
 
     none : within least most 0 ≡ false
-    unfolding within
     none = rw (lt-leb least 0 low)
 
     go : Dec (n ≤ 4294967295) → within least most (narrow n) ≡ within least most n
@@ -87,14 +85,11 @@ unfolding inRange narrowed paramsOf
 narrowed-range a =
     go (within 1000 600000 (a .mudt)) refl (within 1 10000 (a .sst)) refl
   where
-    le : ℕ → ℕ → Bool
-    le = leb
-
     go : (x : Bool) → within 1000 600000 (a .mudt) ≡ x → (y : Bool) → within 1 10000 (a .sst) ≡ y
         → within 1000 600000 (narrow (a .mudt))
-            && (within 1 10000 (narrow (a .sst)) && (leb (narrow (a .sst)) (narrow (a .mudt)) && within 100 10000 (narrow (a .rpt))))
+        && (within 1 10000 (narrow (a .sst)) && (leb (narrow (a .sst)) (narrow (a .mudt)) && within 100 10000 (narrow (a .rpt))))
         ≡ within 1000 600000 (a .mudt)
-            && (within 1 10000 (a .sst) && (leb (a .sst) (a .mudt) && within 100 10000 (a .rpt)))
+        && (within 1 10000 (a .sst) && (leb (a .sst) (a .mudt) && within 100 10000 (a .rpt)))
     go false e y f = rw (narrow-within 1000 600000 (a .mudt) (omega arith) (omega arith), e)
     go true e false f =
         rw (narrow-within 1000 600000 (a .mudt) (omega arith) (omega arith), e, narrow-within 1 10000 (a .sst) (omega arith) (omega arith), f)

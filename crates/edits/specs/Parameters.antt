@@ -22,16 +22,24 @@ numberOf Reaction.Stop = 3
 unfoldable pub paramsOf : Asked → Params
 paramsOf a =
     record {
-      mudt = a .mudt; sst = a .sst; rpt = a .rpt;
-      rwa = reactionOf (a .rwa); rra = reactionOf (a .rra); rfa = reactionOf (a .rfa);
+      mudt = a .mudt;
+      sst = a .sst;
+      rpt = a .rpt;
+      rwa = reactionOf (a .rwa);
+      rra = reactionOf (a .rra);
+      rfa = reactionOf (a .rfa);
     }
 
 -- The numbers that parameters are.
 unfoldable pub askedOf : Params → Asked
 askedOf p =
     record {
-      mudt = p .mudt; sst = p .sst; rpt = p .rpt;
-      rwa = numberOf (p .rwa); rra = numberOf (p .rra); rfa = numberOf (p .rfa);
+      mudt = p .mudt;
+      sst = p .sst;
+      rpt = p .rpt;
+      rwa = numberOf (p .rwa);
+      rra = numberOf (p .rra);
+      rfa = numberOf (p .rfa);
     }
 
 -- The column "range".
@@ -45,6 +53,10 @@ narrow time = cond (leb time 4294967295) time 0
 unfoldable pub narrowed : Asked → Params
 narrowed a =
     record {
-      mudt = narrow (a .mudt); sst = narrow (a .sst); rpt = narrow (a .rpt);
-      rwa = reactionOf (a .rwa); rra = reactionOf (a .rra); rfa = reactionOf (a .rfa);
+      mudt = narrow (a .mudt);
+      sst = narrow (a .sst);
+      rpt = narrow (a .rpt);
+      rwa = reactionOf (a .rwa);
+      rra = reactionOf (a .rra);
+      rfa = reactionOf (a .rfa);
     }

@@ -32,12 +32,12 @@ whole c = search needs
 loop-again : tie.Need-loop-again Inv-loop μ-loop
 loop-again c =
     let at = c .before .before .before in
-    let start = at .before in
-    (
+    let start = at .before in (
       omega arith,
       ap (λ (p : Panel). withTerminals (set (p .terminals) (at .loop .tag) (c .lower .result)) p) (at .loop .inv .1)
           ∙ ap (λ (l : List ℕ). withTerminals l (start .args .t1))
-          (filled-more _ (at .loop .tag) (start .args .t1 .terminals) (c .lower .result) (omega (arith, whole start)) (c .lower .ensures)), at .loop .inv .2,
+          (filled-more _ (at .loop .tag) (start .args .t1 .terminals) (c .lower .result) (omega (arith, whole start)) (c .lower .ensures)),
+      at .loop .inv .2,
     )
 
 returns : tie.Need-returns Inv-loop μ-loop
@@ -45,7 +45,7 @@ returns c =
     let at = c .before in
     let start = at .before in
     let last : at .loop .tag ≡ 64 = omega arith in
-    ap modelOf (at .loop .inv .1 ∙ ap (λ (k : ℕ). withTerminals (filled _ k (start .args .t1 .terminals)) (start .args .t1)) last)
+    ap modelOf (at .loop .inv .1 ∙ ap (λ (k : ℕ). withTerminals (filled (moves (loweredFrom (start .args .t + start .args .n) (start .args .n)) (start .args .t1)) k (start .args .t1 .terminals)) (start .args .t1)) last)
     ∙ lowers (start .args .t1) (start .args .t) (start .args .n) (search needs) (whole start)
 
 pub lower-all-spec : {M : Type 1} → statement M

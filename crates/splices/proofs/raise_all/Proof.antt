@@ -31,8 +31,7 @@ whole c = search needs
 loop-again : tie.Need-loop-again Inv-loop μ-loop
 loop-again c =
     let at = c .before .before .before in
-    let start = at .before in
-    (
+    let start = at .before in (
       omega arith,
       ap (λ (p : Panel). withTerminals (set (p .terminals) (at .loop .tag) (c .raise .result)) p) (at .loop .inv .1)
           ∙ ap (λ (l : List ℕ). withTerminals l (start .args .t1))
@@ -44,7 +43,7 @@ returns c =
     let at = c .before in
     let start = at .before in
     let last : at .loop .tag ≡ 64 = omega arith in
-    ap modelOf (at .loop .inv .1 ∙ ap (λ (k : ℕ). withTerminals (filled _ k (start .args .t1 .terminals)) (start .args .t1)) last)
+    ap modelOf (at .loop .inv .1 ∙ ap (λ (k : ℕ). withTerminals (filled (moves (raisedWithin (start .args .t) (start .args .n)) (start .args .t1)) k (start .args .t1 .terminals)) (start .args .t1)) last)
     ∙ raises (start .args .t1) (start .args .t) (start .args .n) (search needs) (whole start) (start .pre)
 
 pub raise-all-spec : {M : Type 1} → statement M

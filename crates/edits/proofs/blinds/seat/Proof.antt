@@ -14,7 +14,7 @@ returns : tie.Need-returns
 returns c =
     let start = c .before .before in
     seat-put (start .args .panel) (c .with .result) (start .args .tag) (start .args .terminal) (c .before .fresh .result) (c .with .ensures)
-    (start .pre .0) (omega (arith, start .pre .0)) (search (long, needs))
+    (start .pre .0) (search needs) (search (long, needs))
     ∙ ap (λ (b : Blind). reseated (start .args .tag) (some (record { terminal = start .args .terminal; blind = b })) (modelOf (start .args .panel))) (c .before .fresh .ensures)
 
 pub seat-spec : {M : Type 1} → statement M
