@@ -77,8 +77,13 @@ module _ (l : Link) (m : Model) where
 
   pub added-on : Ready → onPanel (added l (m .table)) m ≡ linkAdded l m
   unfolding added linkAdded table.addChecks addChecks
-  added-on ok = on-panel _ m _ _ ∙ ap (λ (k : ℕ). answered k m _ _) (by-table ∙ sym by-panel)
+  added-on ok =
+      on-panel (refusal (table.unsound (m .table) ∷ table.addChecks l (m .table))) m (moved keyOf (m .table .links) new) (holding new)
+      ∙ ap (λ (k : ℕ). answered k m (moved keyOf (m .table .links) new) (relinked (holding new) m)) (by-table ∙ sym by-panel)
     where
+      new : List Link
+      new = inserted keyOf l (m .table .links)
+
       by-table : refusal (table.unsound (m .table) ∷ table.addChecks l (m .table)) ≡ refusal tableChecks
       by-table = passed-by _ 12 _ (ap not (table-sound m (ok .sound))) ∙ passed-by _ 1 _ (ap not (ok .range))
 
@@ -87,8 +92,13 @@ module _ (l : Link) (m : Model) where
 
   pub removed-on : isSound m ≡ true → inRange l ≡ true → onPanel (removed l (m .table)) m ≡ linkRemoved l m
   unfolding removed linkRemoved removeLinkChecks
-  removed-on sound range = on-panel _ m _ _ ∙ ap (λ (k : ℕ). answered k m _ _) (by-table ∙ sym by-panel)
+  removed-on sound range =
+      on-panel (refusal (table.unsound (m .table) ∷ (not (isIn keyOf l (m .table .links)), 5) ∷ [])) m (moved keyOf (m .table .links) new) (holding new)
+      ∙ ap (λ (k : ℕ). answered k m (moved keyOf (m .table .links) new) (relinked (holding new) m)) (by-table ∙ sym by-panel)
     where
+      new : List Link
+      new = deleted keyOf l (m .table .links)
+
       by-table : refusal (table.unsound (m .table) ∷ (not (isIn keyOf l (m .table .links)), 5) ∷ []) ≡ refusal ((not (isIn keyOf l (m .table .links)), 5) ∷ [])
       by-table = passed-by _ 12 _ (ap not (table-sound m sound))
 

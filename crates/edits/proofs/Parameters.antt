@@ -28,8 +28,9 @@ asked-back p = go (p .rwa) (p .rra) (p .rfa)
     back Reaction.Stop = refl
 
     go : (a b c : Reaction)
-        → record { mudt = p .mudt; sst = p .sst; rpt = p .rpt; rwa = reactionOf (numberOf a); rra = reactionOf (numberOf b); rfa = reactionOf (numberOf c) }
-        ≡ record { mudt = p .mudt; sst = p .sst; rpt = p .rpt; rwa = a; rra = b; rfa = c }
+        → _≡_ {A = Params}
+        (record { mudt = p .mudt; sst = p .sst; rpt = p .rpt; rwa = reactionOf (numberOf a); rra = reactionOf (numberOf b); rfa = reactionOf (numberOf c) })
+        (record { mudt = p .mudt; sst = p .sst; rpt = p .rpt; rwa = a; rra = b; rfa = c })
     go a b c = rw (back a, back b, back c)
 
 -- what is accepted gives parameters in range

@@ -40,9 +40,12 @@ write-params-spec =
     (λ c κs. search needs)
     returns
     (λ c. omega (arith, judged c .low))
-    (λ c. omega (arith, fits c))
+    (λ c. let low : c .before .before .args .tag < 64 = judged c .low in search (long, needs))
     (λ c κs. search needs)
     (λ c κs. search needs)
     (λ c. omega (arith, judged (c .before .before .before) .low))
-    (λ c. omega (arith, fits (c .before .before .before)))
+    (λ c.
+    let one = c .before .before .before in
+    let low : one .before .before .args .tag < 64 = judged one .low in
+    search (long, needs))
     returns-2)
