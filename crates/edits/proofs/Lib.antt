@@ -5,3 +5,4 @@ pub mod Soundness
 pub mod Untouched
 pub mod Afresh
 pub mod Outcomes
+pub mod Exact

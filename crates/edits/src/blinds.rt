@@ -43,11 +43,11 @@ pub fn install(panel: Panel, tag: u64, terminal: u64, asked: Asked) -> Answered
             panel,
         };
     }
-    let panel = seat(panel, tag, terminal, asked.params());
+    let seated = seat(panel, tag, terminal, asked.params());
     Answered {
         answer: DONE,
         count: 0,
-        panel,
+        panel: seated,
     }
 }
 

@@ -23,9 +23,11 @@ pub fn inventory(panel: Panel) -> Stock
             lowest: 0,
         };
     }
+    let blinds = panel.present.count();
+    let lowest = panel.present.lowest_free();
     Stock {
         answer: DONE,
-        blinds: panel.present.count(),
-        lowest: panel.present.lowest_free(),
+        blinds: blinds,
+        lowest: lowest,
     }
 }

@@ -3,3 +3,4 @@ pub mod Walk
 pub mod Judging
 pub mod Found
 pub mod Leaves
+pub mod Exact

@@ -3,3 +3,4 @@ pub mod Shifts
 pub mod Judged
 pub mod Soundness
 pub mod Untouched
+pub mod Exact

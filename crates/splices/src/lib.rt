@@ -32,11 +32,11 @@ pub fn splice_in(panel: Panel, t: u64, n: u64) -> Answered
             panel,
         };
     }
-    let panel = raise_all(panel, t, n);
+    let raised = raise_all(panel, t, n);
     Answered {
         answer: DONE,
         count: 0,
-        panel,
+        panel: raised,
     }
 }
 
@@ -52,11 +52,11 @@ pub fn splice_out(panel: Panel, t: u64, n: u64) -> Answered
             panel,
         };
     }
-    let panel = lower_all(panel, t, n);
+    let lowered = lower_all(panel, t, n);
     Answered {
         answer: DONE,
         count: 0,
-        panel,
+        panel: lowered,
     }
 }
 
