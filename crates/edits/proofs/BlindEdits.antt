@@ -1,42 +1,41 @@
 -- Install, remove blind and write parameters: what their judges find out, and what the panel stands for after the work.
 -- Assumes nothing.
-use Prim.Native.Nat.{ℕ, _+_, _<_, _≤_}
+use Prim.Native.Nat.{ℕ, _+_, _<_}
 use mathlib.Core.Path.{_≡_, refl, sym, ap, ap₂, _∙_}
 use mathlib.Core.Bool.{Bool, true, false, not, _&&_, _||_}
-use mathlib.Core.List.{List, [], _∷_}
+use mathlib.Core.List.{[], _∷_}
 use mathlib.Core.Option.{Option, none, some, Option·map}
 use lib.ListN.{length, getD, set}
 use lib.Dec.{leb}
 use borrow.Author.Tests.{leb-false, not-false}
 use Rattle.laws.proofs.Choices.{both-left}
 use Rattle.laws.proofs.Any.{neither-left, neither-right}
-use Rattle.answers.specs.Answers.{Check, refusal, Outcome}
+use Rattle.answers.specs.Answers.{refusal, Outcome}
 use Rattle.answers.proofs.Refusals.{refused-by, passed-by, all-passed, none-left}
 use Rattle.blind.specs.declared.Blind.{Blind}
 use Rattle.blind.specs.declared.Params.{Params}
-use Rattle.blind.specs.Orders.{freshOf}
 use Rattle.reading.specs.Reports.{busy}
 use Rattle.rules.specs.Edits.{rewritten}
 use Rattle.tags.specs.declared.Tags.{Tags}
-use Rattle.tags.specs.Tags.{places, tagsOf, put, taken}
-use Rattle.links.specs.declared.table.Table.{Table}
+use Rattle.tags.specs.Tags.{places, tagsOf, taken}
 use Rattle.links.specs.declared.edits.Edited.{Edited}
 use Rattle.links.specs.Links.{keyOf, Held, heldOf, holding}
 use Rattle.links.specs.Sound as ofLinks
 use Rattle.links.specs.Edits.{moved, dropped, tagRemoved, editedOf}
 use Rattle.links.proofs.Calls.{tag-done}
 use Rattle.panel.specs.declared.Panel.{Panel}
-use Rattle.panel.specs.Panel.{Seat, Model, nobody, placeOf, seatsOf, modelOf, presentIn, reseated, relinked}
-use Rattle.panel.specs.Fields.{withPresent, withTerminals, withBlinds, withTable}
+use Rattle.panel.specs.Panel.{Seat, Model, nobody, seatsOf, modelOf, presentIn, reseated, relinked}
+use Rattle.panel.specs.Fields.{withPresent, withBlinds, withTable}
 use Rattle.panel.specs.Strip.{terminals}
 use Rattle.panel.specs.Sound.{isSound, allNamed, soundSeats}
 use Rattle.panel.proofs.Checks.{not-sound, outside-range, own-checks}
-use Rattle.panel.proofs.Seats.{seat-present, blind-written, seat-put, seat-taken}
+use Rattle.panel.proofs.Seats.{seat-present, blind-written, seat-taken}
 use Rattle.seats.specs.Seats.{inUse, isBusy}
 use Rattle.seats.proofs.Judging.{passed, present-at}
 use Rattle.edits.specs.declared.asked.Asked.{Asked}
-use Rattle.edits.specs.Parameters.{paramsOf, allowed, narrowed}
-use Rattle.edits.specs.Edits.{installChecks, freshSeat, installed, namedChecks, removeChecks, blindRemoved, writeChecks, seatRewritten, paramsWritten}
+use Rattle.edits.specs.Parameters.{paramsOf, allowed}
+use Rattle.edits.specs.Narrow.{narrowed}
+use Rattle.edits.specs.Edits.{installChecks, namedChecks, removeChecks, writeChecks, seatRewritten}
 use Rattle.edits.proofs.Parameters.{narrowed-same}
 
 -- the table of a sound panel is sound

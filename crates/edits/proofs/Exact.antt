@@ -1,10 +1,7 @@
 -- For each edit: each number is given exactly in its case (specs/Cases). Assumes nothing.
-use Prim.Native.Nat.{ℕ, _+_, _≤_}
-use mathlib.Core.Path.{_≡_}
-use mathlib.Core.Bool.{Bool, true, false}
-use mathlib.Core.List.{List, [], _∷_}
-use mathlib.Core.Logic.{_⊎_}
-use lib.Dec.{leb}
+use Prim.Native.Nat.{ℕ, _+_}
+use mathlib.Core.Bool.{Bool}
+use mathlib.Core.List.{List, _∷_}
 use Rattle.laws.specs.Decides.{Decides}
 use Rattle.laws.proofs.Deciding.{le, and, neither, said}
 use Rattle.answers.specs.Answers.{Check}
@@ -14,9 +11,9 @@ use Rattle.links.specs.declared.link.Link.{Link}
 use Rattle.links.specs.Links.{inRange, keyOf}
 use Rattle.links.specs.Sound.{most}
 use Rattle.links.specs.Edits.{isIn, otherClass}
-use Rattle.panel.specs.Panel.{Model, presentIn}
+use Rattle.panel.specs.Panel.{Model}
 use Rattle.panel.specs.Strip.{terminals}
-use Rattle.panel.specs.Sound.{Tagged, Sound, isSound}
+use Rattle.panel.specs.Sound.{Tagged, Sound}
 use Rattle.panel.specs.Calls.{checks}
 use Rattle.panel.proofs.Decides.{sound-decides}
 use Rattle.seats.specs.Cases.{Case, case}

@@ -3,6 +3,8 @@ pub mod BlindEdits
 pub mod LinkEdits
 pub mod Soundness
 pub mod Untouched
-pub mod Afresh
+pub mod Tables
+pub mod Rebuilt
+pub mod Refused
 pub mod Outcomes
 pub mod Exact

@@ -6,8 +6,8 @@ use mathlib.Core.Bool.{Bool, true, false, cond, not}
 use mathlib.Core.List.{List, [], _∷_}
 use lib.Dec.{eqb, leb}
 use borrow.Author.Tests.{not-false}
-use Rattle.answers.specs.Answers.{Check, refusal, Outcome, answered}
-use Rattle.answers.proofs.Refusals.{refused-by, passed-by, all-passed, none-left, answers}
+use Rattle.answers.specs.Answers.{Check, refusal, answered}
+use Rattle.answers.proofs.Refusals.{passed-by, all-passed, answers}
 use Rattle.links.specs.declared.link.Link.{Link}
 use Rattle.links.specs.Links.{inRange, keyOf, Held, holding}
 use Rattle.links.specs.Sound as ofLinks
@@ -17,7 +17,7 @@ use Rattle.links.specs.Edits.{isIn, inserted, deleted, moved, otherClass, added
 use Rattle.panel.specs.Panel.{Model, presentIn, relinked}
 use Rattle.panel.specs.Sound.{isSound}
 use Rattle.panel.specs.Calls.{checks}
-use Rattle.panel.proofs.Checks.{not-sound, outside-range, own-checks, judged-refused}
+use Rattle.panel.proofs.Checks.{own-checks}
 use Rattle.seats.proofs.Judging.{passed}
 use Rattle.edits.specs.Edits.{addChecks, linkAdded, removeLinkChecks, linkRemoved, onPanel}
 use Rattle.edits.proofs.BlindEdits.{table-sound}
@@ -122,3 +122,11 @@ module _ (l : Link) (m : Model) where
   pub remove-ready : linkRemoved l m .answer ≡ 0 → (isSound m ≡ true) × (inRange l ≡ true)
   unfolding linkRemoved
   remove-ready e = remove-checked (sym (answers _ _ _ _) ∙ e)
+
+-- a link that the table accepts is in range
+pub table-range : (l : Link) (h : Held) → added l h .answer ≡ 0 → inRange l ≡ true
+unfolding added table.addChecks
+table-range l h e =
+    let sound = all-passed (not (ofLinks.isSound h)) 11 (table.addChecks l h) (sym (answers _ _ _ _) ∙ e) in
+    not-false (inRange l)
+    (all-passed (not (inRange l)) 0 ((isIn keyOf l (h .links), 4) ∷ (otherClass l (h .links), 8) ∷ (leb most (h .count), 7) ∷ []) (sound .1) .0)

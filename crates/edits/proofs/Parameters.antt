@@ -3,18 +3,19 @@
 use Prim.Native.Nat.{ℕ, _≤_, _<_}
 use native.Mathlib.Omega.{arith}
 use native.Mathlib.Decide.{decLe}
-use mathlib.Core.Path.{_≡_, refl, sym, ap, ap₂, _∙_}
-use mathlib.Core.Bool.{Bool, true, false, cond, _&&_}
-use lib.Dec.{eqb, leb}
+use mathlib.Core.Path.{_≡_, refl, sym, ap, _∙_}
+use mathlib.Core.Bool.{Bool, true, false, _&&_}
+use lib.Dec.{leb}
 use borrow.Author.Tests.{le-leb, lt-leb}
-use Rattle.laws.proofs.Choices.{both-left, both-right}
+use Rattle.laws.proofs.Choices.{both-right}
 use Rattle.blind.specs.declared.Params.{Params}
 use Rattle.blind.specs.declared.Reaction.{Reaction}
 use Rattle.blind.specs.Parameters.{within, inRange}
 use Rattle.reading.specs.Sound.{SoundParams}
 use Rattle.reading.proofs.Decides.{params-decide}
 use Rattle.edits.specs.declared.asked.Asked.{Asked}
-use Rattle.edits.specs.Parameters.{reactionOf, numberOf, paramsOf, askedOf, narrow, narrowed, allowed}
+use Rattle.edits.specs.Parameters.{reactionOf, numberOf, paramsOf, askedOf, allowed}
+use Rattle.edits.specs.Narrow.{narrow, narrowed}
 
 -- the numbers of parameters are those parameters
 pub asked-back : (p : Params) → paramsOf (askedOf p) ≡ p

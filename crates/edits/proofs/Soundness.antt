@@ -1,20 +1,19 @@
 -- Each accepted edit leaves a sound panel. A panel's model has its seats at the tags 0 to 63, and a sound one's table has as
 -- many links as it says; that is all that the theorems ask of a model. Assumes nothing.
-use Prim.Native.Nat.{ℕ, _^_, _+_, _≤_, _<_}
+use Prim.Native.Nat.{ℕ, _^_, _+_, _<_}
 use native.Mathlib.Omega.{arith}
 use mathlib.Core.Path.{_≡_, refl, sym, ap, _∙_, subst}
-use mathlib.Core.Bool.{Bool, true, false, not, _&&_}
+use mathlib.Core.Bool.{Bool, true, false}
 use mathlib.Core.List.{List, [], _∷_}
-use mathlib.Core.Option.{Option, none, some, Option·map, Option·some-injective}
+use mathlib.Core.Option.{Option, none, some, Option·map}
 use lib.ListN.{length, getD}
-use lib.Dec.{eqb}
 use borrow.Author.Tests.{eqb-false, not-true}
-use Rattle.answers.specs.Answers.{Outcome, refusal}
+use Rattle.answers.specs.Answers.{Outcome}
 use Rattle.conduct.proofs.Soundness.{fresh-sound, rewritten-sound}
 use Rattle.links.specs.declared.link.Link.{Link}
-use Rattle.links.specs.Links.{kept, keyOf, Held, heldOf, holding}
+use Rattle.links.specs.Links.{kept, keyOf, Held, holding}
 use Rattle.links.specs.Sound as ofLinks
-use Rattle.links.specs.Edits.{inserted, deleted, dropped, added, removed, tagRemoved}
+use Rattle.links.specs.Edits.{inserted, deleted, dropped, added, removed}
 use Rattle.links.proofs.Each.{Each, none, more, each-at, each-of}
 use Rattle.links.proofs.Sound.{sound-decided}
 use Rattle.links.proofs.Editing.{add-leaves, remove-leaves, tag-leaves}

@@ -1,25 +1,22 @@
 -- Each edit, refused or not, leaves every tag alone that it does not name: its blind, its terminal and its links.
 -- Assumes nothing.
 use Prim.Native.Nat.{ℕ}
-use mathlib.Core.Path.{_≡_, refl, sym, ap, _∙_}
-use mathlib.Core.Bool.{true, false}
+use mathlib.Core.Path.{_≡_, refl, sym}
 use mathlib.Core.Option.{none, some, Option·map}
 use lib.Dec.{eqb}
 use borrow.Author.Tests.{ne-eqb}
 use Rattle.links.specs.declared.link.Link.{Link}
-use Rattle.links.specs.Links.{keyOf, holding}
-use Rattle.links.specs.Edits.{inserted, deleted, dropped}
+use Rattle.links.specs.Links.{keyOf}
 use Rattle.links.proofs.Keys.{range-reads}
 use Rattle.links.proofs.Sound.{sound-reads}
 use Rattle.links.proofs.Untouched.{kept-inserted, kept-deleted, kept-dropped}
-use Rattle.panel.specs.Panel.{Model, reseated, relinked}
+use Rattle.panel.specs.Panel.{Model, reseated}
 use Rattle.panel.proofs.Seats.{reseated-other}
-use Rattle.seats.specs.Untouched.{linksOf, Untouched}
-use Rattle.seats.proofs.Judging.{passed}
+use Rattle.seats.specs.Untouched.{Untouched}
 use Rattle.seats.proofs.Leaves.{left-has}
 use Rattle.edits.specs.declared.asked.Asked.{Asked}
 use Rattle.edits.specs.Parameters.{paramsOf}
-use Rattle.edits.specs.Edits.{freshSeat, installed, blindRemoved, seatRewritten, paramsWritten, linkAdded, removeLinkChecks, linkRemoved}
+use Rattle.edits.specs.Edits.{freshSeat, installed, blindRemoved, seatRewritten, paramsWritten, linkAdded, linkRemoved}
 use Rattle.edits.proofs.BlindEdits.{table-sound}
 use Rattle.edits.proofs.LinkEdits.{remove-checked}
 

@@ -1,9 +1,9 @@
 -- Document 01, "Edits": what each of them answers and leaves. The splices stand in a crate of their own.
 -- Assumes nothing.
 use Prim.Native.Nat.{ℕ, _+_}
-use mathlib.Core.Bool.{Bool, not, _||_}
+use mathlib.Core.Bool.{not, _||_}
 use mathlib.Core.List.{List, [], _∷_}
-use mathlib.Core.Option.{Option, none, some, Option·map}
+use mathlib.Core.Option.{none, some, Option·map}
 use lib.Dec.{leb}
 use Rattle.answers.specs.Answers.{Check, refusal, Outcome, answered}
 use Rattle.blind.specs.declared.Params.{Params}

@@ -45,18 +45,3 @@ askedOf p =
 -- The column "range".
 unfoldable pub allowed : Asked → Bool
 allowed a = leb (a .rwa) 3 && (leb (a .rra) 3 && (leb (a .rfa) 3 && inRange (paramsOf a)))
-
--- A field that holds 32 binary digits: a time that does not fit is 0 there, which is in the range of no time.
-unfoldable pub narrow : ℕ → ℕ
-narrow time = cond (leb time 4294967295) time 0
-
-unfoldable pub narrowed : Asked → Params
-narrowed a =
-    record {
-      mudt = narrow (a .mudt);
-      sst = narrow (a .sst);
-      rpt = narrow (a .rpt);
-      rwa = reactionOf (a .rwa);
-      rra = reactionOf (a .rra);
-      rfa = reactionOf (a .rfa);
-    }

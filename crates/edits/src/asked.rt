@@ -3,10 +3,9 @@
 use blind::Params;
 use blind::Reaction;
 ghost use mathlib.Core.Path.{_≡_};
-ghost use mathlib.Core.Bool.{cond};
-ghost use lib.Dec.{leb};
 ghost use Rattle.blind.specs.Parameters.{defaults};
-ghost use Rattle.edits.specs.Parameters.{reactionOf, numberOf, askedOf, narrowed, narrow, allowed};
+ghost use Rattle.edits.specs.Parameters.{reactionOf, numberOf, askedOf, allowed};
+ghost use Rattle.edits.specs.Narrow.{narrowed, narrow};
 
 // The last reaction, stop.
 const LAST_REACTION: u64 = 3;

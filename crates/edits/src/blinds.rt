@@ -21,13 +21,10 @@ ghost use mathlib.Core.Option.{some};
 ghost use lib.Dec.{leb};
 ghost use Rattle.answers.specs.Answers.{refusal};
 ghost use Rattle.tags.specs.Tags.{places};
-ghost use Rattle.links.specs.Links.{keyOf, heldOf, holding};
-ghost use Rattle.links.specs.Sound.{isSound};
-ghost use Rattle.links.specs.Edits.{moved, dropped};
-ghost use Rattle.panel.specs.Panel.{modelOf, presentIn, reseated, relinked};
+ghost use Rattle.links.specs.Edits.{moved};
+ghost use Rattle.panel.specs.Panel.{modelOf, reseated};
 ghost use Rattle.panel.specs.Calls.{outcomeOf};
 ghost use Rattle.panel.specs.Strip.{terminals};
-ghost use Rattle.rules.specs.Edits.{rewritten};
 ghost use Rattle.edits.specs.Parameters.{allowed};
 ghost use Rattle.edits.specs.Edits.{installChecks, freshSeat, installed, namedChecks, removeChecks, blindRemoved, writeChecks, paramsWritten};
 

@@ -5,13 +5,12 @@ use mathlib.Core.Path.{_≡_, refl, sym, ap, _∙_, subst}
 use mathlib.Core.Bool.{Bool, true, false, cond, _||_}
 use mathlib.Core.Logic.{_⊎_, inl, inr}
 use mathlib.Core.List.{List, [], _∷_}
-use mathlib.Core.Option.{Option, none, some, Option·some-injective, Option·none-ne-some}
-use lib.Dec.{ltb, leb}
+use mathlib.Core.Option.{Option, none, some}
 use Rattle.laws.specs.Decides.{Decides}
-use Rattle.laws.proofs.Choices.{never-both, both-left, both-right}
+use Rattle.laws.proofs.Choices.{never-both}
 use Rattle.laws.proofs.Deciding.{le, lt, and, said}
 use Rattle.laws.proofs.Any.{either-left, either-right}
-use Rattle.answers.specs.Answers.{Check, refusal, Outcome, answered}
+use Rattle.answers.specs.Answers.{Check, refusal, answered}
 use Rattle.answers.proofs.Refusals.{answers}
 use Rattle.reading.specs.Reports.{busy}
 use Rattle.panel.specs.Panel.{Seat, Model, isThere, presentIn}

@@ -1,20 +1,18 @@
 -- What the questions about seats decide: there is such a seat, or no seat is such.
 -- Assumes nothing.
 use Prim.Native.Nat.{ℕ, _+_, _≤_, _<_}
-use native.Mathlib.Omega.{arith}
-use mathlib.Core.Path.{_≡_, sym, _∙_}
-use mathlib.Core.Bool.{Bool, true, false, _&&_}
-use mathlib.Core.Option.{Option, some}
+use mathlib.Core.Path.{_≡_}
+use mathlib.Core.Bool.{Bool, true, false}
+use mathlib.Core.Option.{some}
 use lib.Dec.{ltb, leb}
 use borrow.Author.Tests.{le-leb, lt-ltb}
 use Rattle.laws.proofs.Choices.{both, never-both}
 use Rattle.laws.proofs.Any.{Passes, any-found, any-made, any-none}
-use Rattle.reading.specs.Reports.{busy}
 use Rattle.tags.specs.Tags.{places}
 use Rattle.panel.specs.Panel.{Seat, Model}
 use Rattle.panel.specs.Strip.{terminals}
 use Rattle.panel.specs.Sound.{Tagged, seatsIn}
-use Rattle.seats.specs.Seats.{someSeat, standsWithin, inUse, busyAbove, busyFrom, passesEnd, wouldPass}
+use Rattle.seats.specs.Seats.{someSeat, standsWithin, inUse, passesEnd, wouldPass}
 
 module _ (test : Seat → Bool) (m : Model) where
   -- a seat that passes

@@ -3,7 +3,6 @@
 use Prim.Native.Nat.{ℕ, _+_, _≤_, _<_}
 use mathlib.Core.Path.{_≡_, refl, sym, ap, _∙_}
 use mathlib.Core.Bool.{Bool, true, false, _&&_}
-use mathlib.Core.Option.{Option, none, some}
 use Rattle.laws.specs.Any.{any}
 use Rattle.laws.proofs.Any.{left, hits, any-more, any-hit, any-end}
 use Rattle.tags.specs.Tags.{places, tagsOf}

@@ -8,7 +8,7 @@ use lib.Dec.{eqb}
 use Rattle.blind.specs.declared.Blind.{Blind}
 use Rattle.links.specs.declared.link.Link.{Link}
 use Rattle.links.specs.Links.{kept}
-use Rattle.panel.specs.Panel.{Seat, Model}
+use Rattle.panel.specs.Panel.{Model}
 
 -- The links of a tag, in table order.
 abbrev pub linksOf : ℕ → Model → List Link

@@ -1,6 +1,5 @@
 -- For each splice: each number is given exactly in its case (specs/Cases). Assumes nothing.
 use Prim.Native.Nat.{ℕ, _+_}
-use mathlib.Core.List.{_∷_}
 use Rattle.laws.specs.Decides.{Decides}
 use Rattle.laws.proofs.Deciding.{le, lt, eq, neither}
 use Rattle.panel.specs.Panel.{Model}
@@ -8,7 +7,7 @@ use Rattle.panel.specs.Strip.{terminals}
 use Rattle.panel.specs.Sound.{Tagged}
 use Rattle.panel.specs.Calls.{checks}
 use Rattle.panel.proofs.Decides.{sound-decides}
-use Rattle.seats.proofs.Exact.{Told, all-told, told, Exactly, exactly, or, used-decides, busy-from-decides, passing-decides}
+use Rattle.seats.proofs.Exact.{all-told, told, Exactly, exactly, or, used-decides, busy-from-decides, passing-decides}
 use Rattle.splices.specs.Splices.{offStrip, inChecks, splicedIn, outChecks, splicedOut}
 use Rattle.splices.specs.Cases.{OffStrip, inCases, outCases}
 

@@ -4,3 +4,4 @@ pub mod Judged
 pub mod Soundness
 pub mod Untouched
 pub mod Exact
+pub mod Rebuilt

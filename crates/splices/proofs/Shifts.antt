@@ -1,24 +1,23 @@
 -- Every terminal of a panel is written anew: the panel stands for the shifted one where the terminals of the present tags
 -- go where they should. Assumes nothing.
-use Prim.Native.Nat.{ℕ, _^_, _+_, _<_, _≤_}
+use Prim.Native.Nat.{ℕ, _^_, _+_, _<_}
 use native.Mathlib.Omega.{arith}
-use mathlib.Core.Path.{_≡_, refl, sym, ap, _∙_}
-use mathlib.Core.Bool.{Bool, true, false, _&&_}
-use mathlib.Core.List.{List}
+use mathlib.Core.Path.{_≡_, ap, _∙_}
+use mathlib.Core.Bool.{true, false}
 use lib.ListN.{length, getD}
-use lib.Dec.{leb}
 use Rattle.laws.specs.Fills.{filled}
 use Rattle.laws.proofs.Fills.{filled-at}
 use Rattle.laws.proofs.Any.{any-none}
 use Rattle.tags.specs.Tags.{places, tagsOf}
 use Rattle.panel.specs.declared.Panel.{Panel}
-use Rattle.panel.specs.Panel.{Seat, nobody, placeOf, seatsOf, modelOf, eachSeat}
-use Rattle.panel.specs.Fields.{withTerminals, withBlinds}
+use Rattle.panel.specs.Panel.{nobody, placeOf, seatsOf, modelOf}
+use Rattle.panel.specs.Fields.{withTerminals}
 use Rattle.panel.specs.Strip.{terminals}
 use Rattle.panel.specs.Sound.{seatsIn}
 use Rattle.panel.proofs.Seats.{seat-present, places-written}
 use Rattle.seats.specs.Seats.{someSeat, passesEnd, wouldPass}
-use Rattle.splices.specs.Splices.{shifted, raised, raisedWithin, lowered, loweredFrom}
+use Rattle.splices.specs.Splices.{shifted, raised, lowered}
+use Rattle.splices.specs.Places.{raisedWithin, loweredFrom}
 use Rattle.splices.proofs.Strip.{raised-right, lowered-right}
 
 -- the places that a loop fills: each terminal by a function of the one that stood there

@@ -2,19 +2,16 @@
 use Prim.Native.Nat.{ℕ, _+_, _-_, _≤_, _<_}
 use native.Mathlib.Omega.{arith}
 use native.Mathlib.Decide.{decLe}
-use mathlib.Core.Path.{_≡_, refl, sym, ap, _∙_, subst}
-use mathlib.Core.Bool.{Bool, true, false, cond}
+use mathlib.Core.Path.{_≡_, sym, subst}
 use mathlib.Core.Option.{some}
-use lib.Dec.{leb}
 use borrow.Author.Tests.{le-leb, lt-leb}
-use Rattle.panel.specs.Panel.{Seat, Model, eachSeat}
-use Rattle.panel.specs.Sound.{Tagged, Sound, isSound}
+use Rattle.panel.specs.Panel.{Seat, Model}
+use Rattle.panel.specs.Sound.{Tagged, Sound}
 use Rattle.panel.proofs.Decides.{sound-decides}
 use Rattle.panel.proofs.Kept.{each-sound}
 use Rattle.seats.proofs.Found.{not-in-use, stays-on}
 use Rattle.seats.proofs.Leaves.{Accepted, accepted}
 use Rattle.splices.specs.Splices.{shifted, raised, splicedIn, lowered, splicedOut}
-use Rattle.splices.proofs.Strip.{OnStrip, on-strip}
 use Rattle.splices.proofs.Judged.{InPassed, in-passed, OutPassed, out-passed}
 
 -- a terminal below t stays, and one from t on rises

@@ -3,14 +3,15 @@
 use Prim.Native.Nat.{ℕ, _+_, _-_, _≤_, _<_}
 use native.Mathlib.Omega.{arith}
 use native.Mathlib.Decide.{decLt}
-use mathlib.Core.Path.{_≡_, refl, sym, ap, _∙_}
+use mathlib.Core.Path.{_≡_, refl, sym, _∙_}
 use mathlib.Core.Bool.{Bool, true, false, cond, not, _&&_, _||_}
 use lib.Dec.{eqb, ltb, leb}
-use borrow.Author.Tests.{eqb-false, leb-true, leb-false, ltb-false, lt-ltb, le-ltb, le-leb, lt-leb}
+use borrow.Author.Tests.{eqb-false, leb-false, ltb-false, lt-ltb, le-ltb}
 use Rattle.laws.proofs.Choices.{not-both}
 use Rattle.laws.proofs.Any.{neither-left, neither-right}
 use Rattle.panel.specs.Strip.{terminals}
-use Rattle.splices.specs.Splices.{offStrip, raised, raisedWithin, lowered, loweredFrom}
+use Rattle.splices.specs.Splices.{offStrip, raised, lowered}
+use Rattle.splices.specs.Places.{raisedWithin, loweredFrom}
 
 -- what is left of the strip is less than n exactly if the sum passes its end
 pub less-left : (end t n : ℕ) → t < end → ltb (end - t) n ≡ ltb end (t + n)

@@ -2,9 +2,8 @@
 -- Any two outcomes that a splice's promise allows are equal: panel's Outcomes.one-outcome, since the promise is one equation.
 -- Assumes nothing.
 use Prim.Native.Nat.{ℕ}
-use mathlib.Core.Path.{_≡_, refl, sym, ap, _∙_}
+use mathlib.Core.Path.{_≡_, refl}
 use mathlib.Core.Option.{Option, none, some, Option·map}
-use Rattle.answers.specs.Answers.{Outcome, answered}
 use Rattle.blind.specs.declared.Blind.{Blind}
 use Rattle.panel.specs.Panel.{Seat, Model, presentIn, eachSeat}
 use Rattle.panel.proofs.Kept.{each-present}

@@ -1,2 +1,3 @@
 pub mod Splices
+pub mod Places
 pub mod Cases

@@ -1,11 +1,11 @@
 -- Document 01, "Edits", splices: what they answer and leave.
 -- Assumes nothing.
 use Prim.Native.Nat.{ℕ, _+_, _-_}
-use mathlib.Core.Bool.{Bool, cond, not, _&&_, _||_}
+use mathlib.Core.Bool.{Bool, cond, _||_}
 use mathlib.Core.List.{List, [], _∷_}
 use lib.Dec.{eqb, ltb, leb}
 use Rattle.answers.specs.Answers.{Check, refusal, Outcome, answered}
-use Rattle.panel.specs.Panel.{Seat, Model, eachSeat}
+use Rattle.panel.specs.Panel.{Model, eachSeat}
 use Rattle.panel.specs.Strip.{terminals}
 use Rattle.panel.specs.Calls.{checks}
 use Rattle.seats.specs.Seats.{inUse, busyFrom, wouldPass}
@@ -39,10 +39,3 @@ outChecks t n m = checks m (offStrip t n) ((inUse t (t + n) m, 10) ∷ (busyFrom
 
 unfoldable pub splicedOut : ℕ → ℕ → Model → Outcome Model
 splicedOut t n m = answered (refusal (outChecks t n m)) m 0 (shifted (lowered t n) m)
-
--- A terminal that stays where it would pass the strip, and one that falls from an end on: what the two are at one place.
-unfoldable pub raisedWithin : ℕ → ℕ → ℕ → ℕ
-raisedWithin t n x = cond (leb t x && not (leb terminals (x + n))) (x + n) x
-
-unfoldable pub loweredFrom : ℕ → ℕ → ℕ → ℕ
-loweredFrom end n x = cond (leb end x) (x - n) x

@@ -15,10 +15,9 @@ ghost use mathlib.Core.Bool.{true, false};
 ghost use Rattle.answers.specs.Answers.{refusal};
 ghost use Rattle.panel.specs.Panel.{modelOf};
 ghost use Rattle.panel.specs.Calls.{outcomeOf};
-ghost use Rattle.panel.specs.Sound.{isSound};
 ghost use Rattle.seats.specs.Seats.{wouldPass};
 ghost use Rattle.splices.specs.Splices.{offStrip, shifted, raised, inChecks, splicedIn, lowered, outChecks, splicedOut};
-ghost use Rattle.splices.specs.Splices.{raisedWithin, loweredFrom};
+ghost use Rattle.splices.specs.Places.{raisedWithin, loweredFrom};
 
 // Splices n terminals in at t; refused by 12, 1, 3, 9, in this order.
 pub fn splice_in(panel: Panel, t: u64, n: u64) -> Answered

@@ -2,7 +2,6 @@
 use Prim.Native.Nat.{_-_, _≤_}
 use native.Mathlib.Omega.{arith}
 use borrow.Author.Needs.{needs}
-use Rattle.laws.proofs.Fills.{long}
 use Rattle.seats.specs.Seats.{wouldPass, passesEnd}
 use Rattle.seats.proofs.Walk.{Rest, rest-all, rest-more, rest-hit, rest-end}
 use Rattle.seats.proofs.would_pass.Statement.{statement}

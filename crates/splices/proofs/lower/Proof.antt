@@ -1,7 +1,7 @@
 use native.Mathlib.Omega.{arith}
 use borrow.Author.Needs.{needs}
 use borrow.Author.Tests.{le-leb, lt-leb}
-use Rattle.splices.specs.Splices.{loweredFrom}
+use Rattle.splices.specs.Places.{loweredFrom}
 use Rattle.splices.proofs.lower.Statement.{statement}
 use Rattle.splices.proofs.lower.Tie as tie
 

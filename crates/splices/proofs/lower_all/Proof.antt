@@ -11,7 +11,7 @@ use Rattle.laws.proofs.Fills.{filled-none, filled-more}
 use Rattle.panel.specs.declared.Panel.{Panel}
 use Rattle.panel.specs.Panel.{modelOf}
 use Rattle.panel.specs.Fields.{withTerminals}
-use Rattle.splices.specs.Splices.{loweredFrom}
+use Rattle.splices.specs.Places.{loweredFrom}
 use Rattle.splices.proofs.Shifts.{moves, lowers}
 use Rattle.splices.proofs.Strip.{on-strip}
 use Rattle.splices.proofs.lower_all.Statement.{statement}

@@ -2,7 +2,7 @@ use Prim.Native.Nat.{_+_}
 use native.Mathlib.Omega.{arith}
 use borrow.Author.Needs.{needs}
 use borrow.Author.Tests.{le-leb, lt-leb}
-use Rattle.splices.specs.Splices.{raisedWithin}
+use Rattle.splices.specs.Places.{raisedWithin}
 use Rattle.splices.proofs.raise.Statement.{statement}
 use Rattle.splices.proofs.raise.Tie as tie
 

@@ -1,7 +1,7 @@
 -- The terminals up to this tag are written; the panel that is left stands for the shifted one.
-use Prim.Native.Nat.{_+_, _-_, _≤_}
+use Prim.Native.Nat.{_-_, _≤_}
 use native.Mathlib.Omega.{arith}
-use mathlib.Core.Path.{_≡_, refl, sym, ap, _∙_}
+use mathlib.Core.Path.{_≡_, sym, ap, _∙_}
 use mathlib.Core.List.{List}
 use lib.ListN.{length, set}
 use Prim.Native.Nat.{ℕ}
@@ -11,7 +11,7 @@ use Rattle.laws.proofs.Fills.{filled-none, filled-more}
 use Rattle.panel.specs.declared.Panel.{Panel}
 use Rattle.panel.specs.Panel.{modelOf}
 use Rattle.panel.specs.Fields.{withTerminals}
-use Rattle.splices.specs.Splices.{raisedWithin}
+use Rattle.splices.specs.Places.{raisedWithin}
 use Rattle.splices.proofs.Shifts.{moves, raises}
 use Rattle.splices.proofs.raise_all.Statement.{statement}
 use Rattle.splices.proofs.raise_all.Tie as tie

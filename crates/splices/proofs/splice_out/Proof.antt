@@ -1,11 +1,8 @@
 -- What the judge refuses is handed back; else the terminals are shifted.
-use mathlib.Core.Path.{_≡_, refl, sym, _∙_}
-use mathlib.Core.Bool.{false}
+use mathlib.Core.Path.{refl, sym, _∙_}
 use borrow.Author.Needs.{needs}
-use Rattle.panel.specs.Panel.{modelOf}
-use Rattle.seats.specs.Seats.{wouldPass}
 use Rattle.seats.proofs.Judging.{refuse, accept}
-use Rattle.splices.specs.Splices.{offStrip, splicedOut}
+use Rattle.splices.specs.Splices.{splicedOut}
 use Rattle.splices.proofs.Judged.{out-passed}
 use Rattle.splices.proofs.splice_out.Statement.{statement}
 use Rattle.splices.proofs.splice_out.Tie as tie

@@ -1,6 +1,6 @@
 use borrow.Author.Needs.{needs}
 use borrow.Author.Tests.{le-leb, lt-leb}
-use Rattle.edits.specs.Parameters.{narrow}
+use Rattle.edits.specs.Narrow.{narrow}
 use Rattle.edits.proofs.asked.narrow.Statement.{statement}
 use Rattle.edits.proofs.asked.narrow.Tie as tie
 

@@ -1,4 +1,3 @@
-use borrow.Author.Needs.{needs}
 use borrow.Author.Tests.{ne-eqb}
 use Rattle.edits.specs.Parameters.{reactionOf}
 use Rattle.edits.proofs.asked.reaction.Statement.{statement}

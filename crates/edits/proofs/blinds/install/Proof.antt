@@ -1,12 +1,11 @@
 -- What the judge refuses is handed back; else the tag gets its seat.
-use mathlib.Core.Path.{_≡_, refl, sym, ap, _∙_}
-use mathlib.Core.Option.{Option, some}
+use mathlib.Core.Path.{refl, sym, ap, _∙_}
+use mathlib.Core.Option.{some}
 use borrow.Author.Needs.{needs}
-use Rattle.answers.specs.Answers.{refusal}
 use Rattle.blind.specs.declared.Params.{Params}
-use Rattle.panel.specs.Panel.{Seat, modelOf, reseated}
+use Rattle.panel.specs.Panel.{modelOf, reseated}
 use Rattle.seats.proofs.Judging.{refuse, accept}
-use Rattle.edits.specs.Edits.{installChecks, freshSeat, installed}
+use Rattle.edits.specs.Edits.{freshSeat, installed}
 use Rattle.edits.proofs.Parameters.{narrowed-same}
 use Rattle.edits.proofs.BlindEdits.{Installable, installable}
 use Rattle.edits.proofs.blinds.install.Statement.{statement}

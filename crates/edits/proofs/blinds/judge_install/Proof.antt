@@ -1,5 +1,4 @@
 -- Each test answers one check of the list, in its order; a return takes the checks passed before it.
-use Prim.Native.Nat.{_+_}
 use native.Mathlib.Omega.{arith}
 use mathlib.Core.Path.{_≡_, sym, _∙_}
 use mathlib.Core.Bool.{true, false}

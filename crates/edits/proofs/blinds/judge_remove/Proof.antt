@@ -1,5 +1,5 @@
 -- The checks that all calls share, and then those of a blind that is named.
-use mathlib.Core.Path.{_≡_, sym, _∙_}
+use mathlib.Core.Path.{sym, _∙_}
 use borrow.Author.Needs.{needs}
 use borrow.Author.Tests.{not-true, not-false, le-leb, lt-leb}
 use Rattle.panel.proofs.Checks.{not-sound, outside-range, own-checks}

@@ -1,7 +1,6 @@
 -- The checks that all calls share, and then those of a blind that is named.
-use Prim.Native.Nat.{_<_}
-use mathlib.Core.Path.{_≡_, sym, ap, _∙_}
-use mathlib.Core.Bool.{true, false, not, _||_}
+use mathlib.Core.Path.{_≡_, sym, _∙_}
+use mathlib.Core.Bool.{true, false}
 use lib.Dec.{leb}
 use borrow.Author.Needs.{needs}
 use borrow.Author.Tests.{not-true, not-false, le-leb, lt-leb}
@@ -9,7 +8,6 @@ use Rattle.tags.specs.Tags.{places}
 use Rattle.panel.specs.Panel.{modelOf}
 use Rattle.panel.specs.Sound.{isSound}
 use Rattle.panel.proofs.Checks.{not-sound, outside-range, own-checks}
-use Rattle.edits.specs.Parameters.{allowed}
 use Rattle.edits.specs.Edits.{writeChecks}
 use Rattle.edits.proofs.blinds.judge_write.Statement.{statement}
 use Rattle.edits.proofs.blinds.judge_write.Tie as tie

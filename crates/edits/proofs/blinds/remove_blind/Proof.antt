@@ -1,7 +1,6 @@
 -- What the judge refuses is handed back; else the table's call drops the links, and the tag is taken out.
-use mathlib.Core.Path.{_≡_, refl, sym, ap, _∙_}
+use mathlib.Core.Path.{sym, _∙_}
 use borrow.Author.Needs.{needs}
-use Rattle.panel.specs.Panel.{modelOf}
 use Rattle.seats.proofs.Judging.{refuse, accept}
 use Rattle.edits.specs.Edits.{blindRemoved}
 use Rattle.edits.proofs.BlindEdits.{removable, taken-out}

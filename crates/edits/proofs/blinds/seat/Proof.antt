@@ -1,11 +1,10 @@
 -- The place of the tag is written, and the tag is put in.
-use native.Mathlib.Omega.{arith}
-use mathlib.Core.Path.{_≡_, ap, _∙_}
-use mathlib.Core.Option.{Option, some}
+use mathlib.Core.Path.{ap, _∙_}
+use mathlib.Core.Option.{some}
 use borrow.Author.Needs.{needs}
 use Rattle.blind.specs.declared.Blind.{Blind}
 use Rattle.laws.proofs.Fills.{long}
-use Rattle.panel.specs.Panel.{Seat, modelOf, reseated}
+use Rattle.panel.specs.Panel.{modelOf, reseated}
 use Rattle.panel.proofs.Seats.{seat-put}
 use Rattle.edits.proofs.blinds.seat.Statement.{statement}
 use Rattle.edits.proofs.blinds.seat.Tie as tie

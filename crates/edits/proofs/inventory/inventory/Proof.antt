@@ -1,10 +1,8 @@
 -- The presence word has the tags that have a blind.
-use Prim.Native.Nat.{ℕ}
-use mathlib.Core.Path.{_≡_, refl, sym, ap, ap₂, _∙_}
+use mathlib.Core.Path.{refl, sym, ap, _∙_}
 use mathlib.Core.Bool.{not}
 use mathlib.Core.List.{[]}
 use borrow.Author.Needs.{needs}
-use borrow.Author.Tests.{not-true, not-false}
 use Rattle.answers.proofs.Refusals.{refused-by, passed-by, none-left, refused-as}
 use Rattle.tags.specs.Tags.{TagSet, places, howMany, lowestFree}
 use Rattle.panel.proofs.Seats.{present-tags}

@@ -1,10 +1,10 @@
 -- What the panel refuses is handed back; else the table's call answers for the panel.
-use mathlib.Core.Path.{_≡_, sym, ap, _∙_}
+use mathlib.Core.Path.{sym, ap, _∙_}
 use borrow.Author.Needs.{needs}
 use Rattle.answers.specs.Answers.{Outcome}
 use Rattle.links.specs.declared.link.Link.{Link}
 use Rattle.links.specs.Links.{Held, heldOf}
-use Rattle.links.specs.Edits.{added, editedOf}
+use Rattle.links.specs.Edits.{added}
 use Rattle.panel.specs.Panel.{modelOf}
 use Rattle.seats.proofs.Judging.{refuse}
 use Rattle.edits.specs.Edits.{linkOf, linkAdded, onPanel}

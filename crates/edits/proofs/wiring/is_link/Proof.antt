@@ -1,6 +1,4 @@
-use Prim.Native.Nat.{_≤_}
 use native.Mathlib.Omega.{arith}
-use borrow.Author.Needs.{needs}
 use borrow.Author.Tests.{le-leb, lt-leb}
 use Rattle.links.specs.Links.{inRange}
 use Rattle.edits.proofs.wiring.is_link.Statement.{statement}

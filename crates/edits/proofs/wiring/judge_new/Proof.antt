@@ -3,7 +3,6 @@ use mathlib.Core.Path.{sym, ap, _∙_}
 use mathlib.Core.Bool.{not}
 use mathlib.Core.List.{[]}
 use borrow.Author.Needs.{needs}
-use borrow.Author.Tests.{not-true, not-false}
 use Rattle.answers.proofs.Refusals.{refused-by, passed-by, none-left}
 use Rattle.panel.proofs.Checks.{judged-on}
 use Rattle.seats.proofs.Judging.{present-at}

@@ -1,5 +1,4 @@
 use mathlib.Core.Path.{refl}
-use borrow.Author.Needs.{needs}
 use Rattle.panel.specs.Panel.{seatsOf}
 use Rattle.edits.proofs.wiring.relink.Statement.{statement}
 use Rattle.edits.proofs.wiring.relink.Tie as tie

@@ -6,7 +6,7 @@ use borrow.Author.Tests.{not-false}
 use Rattle.answers.specs.Answers.{Outcome}
 use Rattle.links.specs.declared.link.Link.{Link}
 use Rattle.links.specs.Links.{inRange, Held, heldOf}
-use Rattle.links.specs.Edits.{removed, editedOf}
+use Rattle.links.specs.Edits.{removed}
 use Rattle.panel.specs.Panel.{modelOf}
 use Rattle.panel.specs.Sound.{isSound}
 use Rattle.panel.proofs.Checks.{judged-right}

@@ -1,5 +1,5 @@
 use borrow.Author.Needs.{needs}
-use Rattle.edits.specs.Parameters.{narrowed}
+use Rattle.edits.specs.Narrow.{narrowed}
 use Rattle.edits.proofs.asked.Asked.params.Statement.{statement}
 use Rattle.edits.proofs.asked.Asked.params.Tie as tie
 
