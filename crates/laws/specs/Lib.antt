@@ -1,3 +1,4 @@
 pub mod Decides
 pub mod Fills
 pub mod Every
+pub mod Any

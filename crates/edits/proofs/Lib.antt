@@ -1,0 +1,10 @@
+pub mod Parameters
+pub mod BlindEdits
+pub mod LinkEdits
+pub mod Soundness
+pub mod Untouched
+pub mod Tables
+pub mod Rebuilt
+pub mod Refused
+pub mod Outcomes
+pub mod Exact

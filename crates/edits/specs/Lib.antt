@@ -1,0 +1,5 @@
+pub mod Parameters
+pub mod Narrow
+pub mod Edits
+pub mod Cases
+pub mod Afresh

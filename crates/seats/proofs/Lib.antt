@@ -1,0 +1,6 @@
+pub mod Strip
+pub mod Walk
+pub mod Judging
+pub mod Found
+pub mod Leaves
+pub mod Exact

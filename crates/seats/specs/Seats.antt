@@ -1,0 +1,41 @@
+-- Document 01, "Numbers the panel answers": what the edits ask of the seats, the terminals and blinds of the present tags.
+-- Assumes nothing.
+use Prim.Native.Nat.{ℕ, _+_}
+use mathlib.Core.Bool.{Bool, false, _&&_}
+use mathlib.Core.Option.{Option, none, some}
+use lib.Dec.{ltb, leb}
+use Rattle.laws.specs.Any.{any}
+use Rattle.reading.specs.Reports.{busy}
+use Rattle.panel.specs.Panel.{Seat, Model}
+use Rattle.panel.specs.Strip.{terminals}
+use Rattle.panel.specs.Sound.{seatsIn}
+
+-- Whether a seat of the panel passes a test.
+unfoldable pub someSeat : (Seat → Bool) → Model → Bool
+someSeat test m = any test (seatsIn m)
+
+abbrev pub standsWithin : ℕ → ℕ → Seat → Bool
+standsWithin from end seat = leb from (seat .terminal) && ltb (seat .terminal) end
+
+-- "10: terminal in use", of the terminals from the first on and below the end.
+unfoldable pub inUse : ℕ → ℕ → Model → Bool
+inUse from end = someSeat (standsWithin from end)
+
+abbrev pub busyAbove : ℕ → Seat → Bool
+busyAbove from seat = leb from (seat .terminal) && busy (seat .blind)
+
+-- "3: busy", of the blinds from a terminal on.
+unfoldable pub busyFrom : ℕ → Model → Bool
+busyFrom from = someSeat (busyAbove from)
+
+abbrev pub passesEnd : ℕ → ℕ → Seat → Bool
+passesEnd from n seat = leb from (seat .terminal) && leb terminals (seat .terminal + n)
+
+-- "9: a terminal would pass 127", if those from a terminal on rise by n.
+unfoldable pub wouldPass : ℕ → ℕ → Model → Bool
+wouldPass from n = someSeat (passesEnd from n)
+
+-- "3: busy", of the blind of one tag.
+abbrev pub isBusy : Option Seat → Bool
+isBusy none = false
+isBusy (some seat) = busy (seat .blind)

@@ -1,0 +1,7 @@
+pub mod Strip
+pub mod Shifts
+pub mod Judged
+pub mod Soundness
+pub mod Untouched
+pub mod Exact
+pub mod Rebuilt
