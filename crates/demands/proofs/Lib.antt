@@ -1,0 +1,5 @@
+pub mod Demand1
+pub mod Bridges
+pub mod Soundness
+pub mod Demand3
+pub mod Afresh

@@ -1,0 +1,3 @@
+pub mod Calls
+pub mod Demand1
+pub mod Demand3
