@@ -66,7 +66,7 @@ pub enum Motion {
     Runs(Run),
 }
 
-// The position is 0 at the top; it may be told only when it is valid.
+// The position is 0 at the top. It is counted and told also while it is not valid.
 pub struct Blind {
     pub params: Params,
     pub flags: Flags,

@@ -109,9 +109,9 @@ impl Blind {
     pub(crate) fn motor_off(self) -> Blind
         ensures { λ r. ⌜ r ≡ motorOff self ⌝ }
     {
-        let rest = self.params.pause();
+        let whole = self.params.pause();
         Blind {
-            motion: Motion::Off(rest),
+            motion: Motion::Off(whole),
             ..self
         }
     }

@@ -1,11 +1,10 @@
 -- The test of soundness decides the statement, clause by clause, for every model whose tags are those that there are.
 -- Assumes nothing.
 use Prim.Native.Nat.{ℕ, _^_, _<_, _≤_}
-use mathlib.Core.Path.{_≡_, refl, sym, ap, _∙_}
-use mathlib.Core.Bool.{Bool, true, false, _&&_, and-false}
+use mathlib.Core.Path.{_≡_}
+use mathlib.Core.Bool.{true, false, and-false}
 use mathlib.Core.Option.{some}
 use lib.ListN.{length, getD}
-use lib.Dec.{leb}
 use Rattle.laws.specs.Decides.{Decides}
 use Rattle.laws.proofs.Deciding.{le, and, said}
 use Rattle.laws.proofs.Every.{every-at, every-there, distinct-there}

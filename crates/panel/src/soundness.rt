@@ -13,12 +13,14 @@ ghost use Rattle.tags.specs.Tags.{tagsOf};
 ghost use Rattle.links.specs.Links.{heldOf};
 ghost use Rattle.panel.specs.Panel.{modelOf};
 ghost use Rattle.panel.specs.Strip.{takenOf};
-ghost use Rattle.panel.specs.Sound.{allNamed, soundSeat, soundSeats, isSound};
+ghost use Rattle.panel.specs.Sound.{allNamed, soundSeat, isSound};
 
 // The last terminal of the strip.
 const LAST_TERMINAL: u8 = 127;
 
 impl Panel {
+    // The links first, then seat by seat. A place whose tag is absent is passed over unread. The loop stands here, and
+    // not in a function of its own, so that the panel is not copied once more.
     pub fn is_sound(self) -> bool
         ensures { λ r. ⌜ r ≡ isSound (modelOf self) ⌝ }
     {
@@ -29,13 +31,6 @@ impl Panel {
         if !all_named(self.present, table) {
             return false;
         }
-        self.has_sound_seats()
-    }
-
-    // Every seat is sound, and no terminal is met twice. A place whose tag is absent is passed over unread.
-    fn has_sound_seats(self) -> bool
-        ensures { λ r. ⌜ r ≡ soundSeats (modelOf self) ⌝ }
-    {
         let mut met = Strip::empty();
         for tag in 0..64 {
             if self.present.has(tag as u64) {

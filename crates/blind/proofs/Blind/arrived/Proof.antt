@@ -1,3 +1,5 @@
+-- `Blind::arrived`: the goal that was matched picks the case of `arrived`; the end of a full run comes from `end`.
+-- Assumes nothing.
 use borrow.Author.Needs.{needs}
 use Rattle.blind.specs.Millisecond.{arrived}
 use Rattle.blind.proofs.Blind.arrived.Statement.{statement}

@@ -1,3 +1,5 @@
+-- `Blind::end`: the direction that was matched picks the case of `endOf`.
+-- Assumes nothing.
 use borrow.Author.Needs.{needs}
 use Rattle.blind.proofs.Blind.end.Statement.{statement}
 use Rattle.blind.proofs.Blind.end.Tie as tie

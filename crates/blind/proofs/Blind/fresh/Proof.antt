@@ -1,3 +1,5 @@
+-- `Blind::fresh`: the value that is made is `freshOf`, field by field, with the pause from `pause`.
+-- Assumes nothing.
 use borrow.Author.Needs.{needs}
 use Rattle.blind.specs.Orders.{freshOf}
 use Rattle.blind.proofs.Blind.fresh.Statement.{statement}

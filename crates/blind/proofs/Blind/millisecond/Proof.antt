@@ -1,3 +1,5 @@
+-- `Blind::millisecond`: the motion that was matched picks the case of `millisecondAt`, and each arm's callee promises its right side.
+-- Assumes nothing.
 use borrow.Author.Needs.{needs}
 use Rattle.blind.specs.Millisecond.{millisecond, millisecondAt}
 use Rattle.blind.proofs.Blind.millisecond.Statement.{statement}

@@ -1,3 +1,5 @@
+-- `Blind::motor_off`: the value that is made is `motorOff`, with the pause from `pause`.
+-- Assumes nothing.
 use borrow.Author.Needs.{needs}
 use Rattle.blind.specs.Orders.{motorOff}
 use Rattle.blind.proofs.Blind.motor_off.Statement.{statement}

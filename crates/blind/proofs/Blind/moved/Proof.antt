@@ -1,3 +1,5 @@
+-- `Blind::moved`: the new position is what `beside` and `bottom` promise.
+-- Assumes nothing.
 use borrow.Author.Needs.{needs}
 use Rattle.blind.specs.Millisecond.{moved}
 use Rattle.blind.proofs.Blind.moved.Statement.{statement}

@@ -1,3 +1,5 @@
+-- `Blind::order`: the motion that was matched picks the case of `orderedAt`, and each arm's callee promises its right side.
+-- Assumes nothing.
 use borrow.Author.Needs.{needs}
 use Rattle.blind.specs.Orders.{ordered, orderedAt}
 use Rattle.blind.proofs.Blind.order.Statement.{statement}

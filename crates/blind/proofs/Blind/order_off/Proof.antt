@@ -1,3 +1,5 @@
+-- `Blind::order_off`: whether the order waits, as `must_wait` promises it, picks the side of the choice in `orderedOff`.
+-- Assumes nothing.
 use borrow.Author.Needs.{needs}
 use Rattle.blind.specs.Orders.{orderedOff}
 use Rattle.blind.proofs.Blind.order_off.Statement.{statement}

@@ -1,3 +1,5 @@
+-- `Blind::order_running`: whether the run goes on, as `goes` promises it, picks the side of the choice in `orderedRunning`.
+-- Assumes nothing.
 use borrow.Author.Needs.{needs}
 use Rattle.blind.specs.Orders.{orderedRunning}
 use Rattle.blind.proofs.Blind.order_running.Statement.{statement}

@@ -1,3 +1,5 @@
+-- `Blind::run`: whether the length is used up picks the side of the choice in `ran`; the rest is what the callees promise.
+-- Assumes nothing.
 use borrow.Author.Needs.{needs}
 use Rattle.blind.specs.Millisecond.{ran}
 use Rattle.blind.proofs.Blind.run.Statement.{statement}

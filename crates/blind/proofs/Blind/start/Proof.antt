@@ -1,3 +1,5 @@
+-- `Blind::start`: the value that is made is `started`, with the last direction from `last`.
+-- Assumes nothing.
 use borrow.Author.Needs.{needs}
 use Rattle.blind.specs.Orders.{started}
 use Rattle.blind.proofs.Blind.start.Statement.{statement}

@@ -1,3 +1,5 @@
+-- `Blind::stop`: the motion that was matched picks the case of `stoppedAt`.
+-- Assumes nothing.
 use borrow.Author.Needs.{needs}
 use Rattle.blind.specs.Orders.{stopped, stoppedAt}
 use Rattle.blind.proofs.Blind.stop.Statement.{statement}

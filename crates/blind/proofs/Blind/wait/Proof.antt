@@ -1,3 +1,5 @@
+-- `Blind::wait`: whether this is the last millisecond of the pause picks the side of the choice in `waited`.
+-- Assumes nothing.
 use borrow.Author.Needs.{needs}
 use Rattle.blind.specs.Millisecond.{waited}
 use Rattle.blind.proofs.Blind.wait.Statement.{statement}

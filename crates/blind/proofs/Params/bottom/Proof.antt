@@ -1,3 +1,5 @@
+-- `Params::bottom` is its definition, opened.
+-- Assumes nothing.
 use borrow.Author.Needs.{needs}
 use Rattle.blind.specs.Parameters.{bottom}
 use Rattle.blind.proofs.Params.bottom.Statement.{statement}

@@ -1,3 +1,5 @@
+-- `Params::default_set`: the constant is `defaults`, field by field.
+-- Assumes nothing.
 use borrow.Author.Needs.{needs}
 use Rattle.blind.specs.Parameters.{defaults}
 use Rattle.blind.proofs.Params.default_set.Statement.{statement}

@@ -1,3 +1,5 @@
+-- `Params::full_time` is its definition, opened.
+-- Assumes nothing.
 use borrow.Author.Needs.{needs}
 use Rattle.blind.specs.Parameters.{fullTime}
 use Rattle.blind.proofs.Params.full_time.Statement.{statement}

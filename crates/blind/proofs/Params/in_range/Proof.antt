@@ -1,3 +1,5 @@
+-- `Params::in_range`: the tests that led to a return say which part of `inRange` is false, or that the last decides.
+-- Assumes nothing.
 use borrow.Author.Needs.{needs}
 use borrow.Author.Tests.{le-leb, lt-leb, not-false, not-true}
 use Rattle.blind.specs.Parameters.{inRange}

@@ -1,3 +1,5 @@
+-- `Run::shortened`: the new length is what `less_one` promises.
+-- Assumes nothing.
 use borrow.Author.Needs.{needs}
 use Rattle.blind.specs.Millisecond.{shortened}
 use Rattle.blind.proofs.Run.shortened.Statement.{statement}

@@ -1,3 +1,5 @@
+-- `beside`: the direction that was matched picks the case, and the test on the position tells it from the end.
+-- Assumes nothing.
 use borrow.Author.Needs.{needs}
 use native.Mathlib.Omega.{arith}
 use Rattle.blind.proofs.millisecond.beside.Statement.{statement}

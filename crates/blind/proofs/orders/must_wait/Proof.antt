@@ -1,3 +1,5 @@
+-- `must_wait`: whether the rest time is above 0 decides the first part of the test, `goes_on` the second.
+-- Assumes nothing.
 use borrow.Author.Needs.{needs}
 use borrow.Author.Tests.{le-ltb, lt-ltb}
 use Rattle.blind.proofs.orders.must_wait.Statement.{statement}

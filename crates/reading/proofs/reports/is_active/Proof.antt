@@ -1,3 +1,5 @@
+-- `is_active`: the motion that was matched picks the case of `activeAt`.
+-- Assumes nothing.
 use borrow.Author.Needs.{needs}
 use Rattle.reading.specs.Reports.{active}
 use Rattle.reading.proofs.reports.is_active.Statement.{statement}

@@ -1,3 +1,5 @@
+-- `is_busy`: the motion that was matched picks the case of `busyAt`.
+-- Assumes nothing.
 use borrow.Author.Needs.{needs}
 use Rattle.reading.specs.Reports.{busy}
 use Rattle.reading.proofs.reports.is_busy.Statement.{statement}

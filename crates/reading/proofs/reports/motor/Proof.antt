@@ -1,3 +1,5 @@
+-- `motor`: the motion that was matched picks the case of `motorAt`, and `command` promises the direction's number.
+-- Assumes nothing.
 use borrow.Author.Needs.{needs}
 use Rattle.reading.specs.Reports.{motorOf}
 use Rattle.reading.proofs.reports.motor.Statement.{statement}

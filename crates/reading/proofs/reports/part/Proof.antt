@@ -1,3 +1,5 @@
+-- `part`: a lower end of 0 divides to 0, and any other is divided by; 255 parts of 32 bits fit 64.
+-- Assumes nothing.
 use borrow.Author.Needs.{needs}
 use native.Mathlib.Nat.{div-zero}
 use Rattle.reading.proofs.reports.part.Statement.{statement}

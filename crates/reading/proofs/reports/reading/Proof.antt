@@ -1,3 +1,5 @@
+-- `reading`: `part` promises the part, and "valid" picks whether 256 is added.
+-- Assumes nothing.
 use borrow.Author.Needs.{needs}
 use Rattle.reading.proofs.Readings.{reading-fits}
 use native.Mathlib.Nat.{add-zero}

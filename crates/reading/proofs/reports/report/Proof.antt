@@ -1,3 +1,5 @@
+-- `report`: whether the blind was active before, and is after, picks the side of the choice.
+-- Assumes nothing.
 use borrow.Author.Needs.{needs}
 use borrow.Author.Tests.{not-false, not-true}
 use Rattle.reading.specs.Reports.{report}

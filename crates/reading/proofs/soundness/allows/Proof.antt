@@ -1,3 +1,5 @@
+-- `allows`: the motion that was matched picks the case of `soundMotion`, and each arm's callee promises its right side.
+-- Assumes nothing.
 use borrow.Author.Needs.{needs}
 use Rattle.reading.specs.Sound.{soundMotion}
 use Rattle.reading.proofs.soundness.allows.Statement.{statement}

@@ -1,3 +1,5 @@
+-- `allows_length`: the test on the length decides the first part of `soundRun`, `longest` the second.
+-- Assumes nothing.
 use borrow.Author.Needs.{needs}
 use borrow.Author.Tests.{le-leb, lt-leb}
 use Rattle.reading.proofs.soundness.allows_length.Statement.{statement}

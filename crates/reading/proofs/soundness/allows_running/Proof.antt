@@ -1,3 +1,5 @@
+-- `allows_running`: `allows_length` decides the first part of `soundRunning`, `goes_on` the second.
+-- Assumes nothing.
 use borrow.Author.Needs.{needs}
 use borrow.Author.Tests.{not-false, not-true}
 use Rattle.reading.specs.Sound.{soundRunning}

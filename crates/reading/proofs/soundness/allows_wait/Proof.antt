@@ -1,3 +1,5 @@
+-- `allows_wait`: the tests that led to a return say which part of `soundWait` is false, or that the last decides.
+-- Assumes nothing.
 use borrow.Author.Needs.{needs}
 use borrow.Author.Tests.{le-leb, lt-leb, not-false, not-true}
 use Rattle.reading.specs.Sound.{soundWait}

@@ -1,3 +1,5 @@
+-- `is_sound`: the tests that led to a return say which part of `sound` is false, or that the last decides.
+-- Assumes nothing.
 use borrow.Author.Needs.{needs}
 use borrow.Author.Tests.{le-leb, lt-leb, not-false, not-true}
 use Rattle.reading.specs.Sound.{sound}

@@ -1,3 +1,5 @@
+-- `is_whole`: the goal that was matched picks the case of `wholeAt`.
+-- Assumes nothing.
 use borrow.Author.Needs.{needs}
 use Rattle.reading.proofs.soundness.is_whole.Statement.{statement}
 use Rattle.reading.proofs.soundness.is_whole.Tie as tie

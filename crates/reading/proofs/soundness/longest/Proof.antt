@@ -1,3 +1,5 @@
+-- `longest`: the goal that was matched picks the case of `longest`.
+-- Assumes nothing.
 use borrow.Author.Needs.{needs}
 use Rattle.reading.proofs.soundness.longest.Statement.{statement}
 use Rattle.reading.proofs.soundness.longest.Tie as tie

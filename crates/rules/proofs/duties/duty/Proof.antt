@@ -1,3 +1,5 @@
+-- `duty`: the callees' promises, put together, are `dutyOf`.
+-- Assumes nothing.
 use borrow.Author.Needs.{needs}
 use Rattle.rules.specs.Rules.{dutyOf}
 use Rattle.rules.proofs.duties.duty.Statement.{statement}

@@ -1,3 +1,5 @@
+-- `obey`: the duty that was matched picks the case of `obeyed`, and each arm's callee promises its right side.
+-- Assumes nothing.
 use borrow.Author.Needs.{needs}
 use Rattle.rules.specs.Rules.{obeyed}
 use Rattle.rules.proofs.duties.obey.Statement.{statement}

@@ -1,3 +1,5 @@
+-- `rewrite`: what `ruled` promises of the blind with its new fields is `rewritten`.
+-- Assumes nothing.
 use borrow.Author.Needs.{needs}
 use Rattle.rules.specs.Edits.{rewritten}
 use Rattle.rules.proofs.duties.rewrite.Statement.{statement}

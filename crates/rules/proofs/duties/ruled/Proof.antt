@@ -1,3 +1,5 @@
+-- `ruled`: whether the duty is the same, as `same_duty` promises it, picks the side of the choice.
+-- Assumes nothing.
 use borrow.Author.Needs.{needs}
 use Rattle.rules.specs.Rules.{ruled}
 use Rattle.rules.proofs.duties.ruled.Statement.{statement}

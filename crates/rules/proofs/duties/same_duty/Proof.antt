@@ -1,3 +1,5 @@
+-- `same_duty`: the two numbers are those that `number` promises.
+-- Assumes nothing.
 use borrow.Author.Needs.{needs}
 use Rattle.rules.proofs.duties.same_duty.Statement.{statement}
 use Rattle.rules.proofs.duties.same_duty.Tie as tie

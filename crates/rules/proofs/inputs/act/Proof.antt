@@ -1,3 +1,5 @@
+-- `act`: the command that was matched picks the case of `acted`, and each arm's callee promises its right side.
+-- Assumes nothing.
 use borrow.Author.Needs.{needs}
 use Rattle.rules.specs.Inputs.{acted}
 use Rattle.rules.proofs.inputs.act.Statement.{statement}

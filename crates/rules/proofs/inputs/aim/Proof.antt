@@ -1,3 +1,5 @@
+-- `aim`: the tests on the byte pick the side of each choice in `aimed`.
+-- Assumes nothing.
 use borrow.Author.Needs.{needs}
 use borrow.Author.Tests.{eq-eqb, ne-eqb}
 use Rattle.rules.specs.Inputs.{aimed}

@@ -1,3 +1,5 @@
+-- `aim_between`: whether the position is valid picks the side of the choice, and `towards` promises the aim.
+-- Assumes nothing.
 use borrow.Author.Needs.{needs}
 use Rattle.rules.specs.Inputs.{aimedBetween, target}
 use Rattle.rules.proofs.inputs.aim_between.Statement.{statement}

@@ -1,3 +1,5 @@
+-- `follow`: the aim that was matched picks the case of `followed`.
+-- Assumes nothing.
 use borrow.Author.Needs.{needs}
 use Rattle.rules.specs.Inputs.{followed}
 use Rattle.rules.proofs.inputs.follow.Statement.{statement}

@@ -1,3 +1,5 @@
+-- `full_run`: the length is what `full_time` promises.
+-- Assumes nothing.
 use borrow.Author.Needs.{needs}
 use Rattle.rules.proofs.inputs.full_run.Statement.{statement}
 use Rattle.rules.proofs.inputs.full_run.Tie as tie

@@ -1,3 +1,5 @@
+-- `mud`: what `order` promises of the full run is `mud`.
+-- Assumes nothing.
 use borrow.Author.Needs.{needs}
 use Rattle.rules.specs.Inputs.{mud}
 use Rattle.rules.proofs.inputs.mud.Statement.{statement}

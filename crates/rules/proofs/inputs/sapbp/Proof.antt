@@ -1,3 +1,5 @@
+-- `sapbp`: what `follow` promises of the aim is `sapbp`.
+-- Assumes nothing.
 use borrow.Author.Needs.{needs}
 use Rattle.rules.specs.Inputs.{sapbp}
 use Rattle.rules.proofs.inputs.sapbp.Statement.{statement}

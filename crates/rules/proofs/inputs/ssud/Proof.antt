@@ -1,3 +1,5 @@
+-- `ssud`: whether a step may be ordered, as `steps` promises it, picks the side of the choice.
+-- Assumes nothing.
 use borrow.Author.Needs.{needs}
 use Rattle.rules.specs.Inputs.{ssud}
 use Rattle.rules.proofs.inputs.ssud.Statement.{statement}

@@ -1,3 +1,5 @@
+-- `target`: a byte times 32 bits fits 64, and the quotient is the definition.
+-- Assumes nothing.
 use borrow.Author.Needs.{needs}
 use Rattle.rules.proofs.Products.{byte-product}
 use Rattle.rules.proofs.inputs.target.Statement.{statement}

@@ -1,3 +1,5 @@
+-- `towards`: the tests on position and target pick the side of each choice.
+-- Assumes nothing.
 use borrow.Author.Needs.{needs}
 use borrow.Author.Tests.{le-ltb, lt-ltb}
 use Rattle.rules.specs.Inputs.{towards}

@@ -1,3 +1,5 @@
+-- `command_free`: whether the duty is Free, as `is_free` promises it, picks the side of the choice in `commanded`.
+-- Assumes nothing.
 use borrow.Author.Needs.{needs}
 use Rattle.rules.specs.Rules.{commanded}
 use Rattle.rules.proofs.telegrams.command_free.Statement.{statement}

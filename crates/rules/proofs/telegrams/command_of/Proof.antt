@@ -1,3 +1,5 @@
+-- `command_of`: the kind that was matched, or that it is none of those named, picks the side of each choice in `commandOf`.
+-- Assumes nothing.
 use borrow.Author.Needs.{needs}
 use borrow.Author.Tests.{ne-eqb}
 use Rattle.rules.specs.Telegrams.{commandOf}

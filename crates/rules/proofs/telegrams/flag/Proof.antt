@@ -1,3 +1,5 @@
+-- `flag`: what `ruled` promises of the blind with its new flags is `flagged`.
+-- Assumes nothing.
 use borrow.Author.Needs.{needs}
 use Rattle.rules.specs.Rules.{flagged}
 use Rattle.rules.proofs.telegrams.flag.Statement.{statement}

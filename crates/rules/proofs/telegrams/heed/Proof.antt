@@ -1,3 +1,5 @@
+-- `heed`: the input that was matched picks the case of `heeded`, and each arm's callee promises its right side.
+-- Assumes nothing.
 use borrow.Author.Needs.{needs}
 use Rattle.rules.specs.Rules.{heeded}
 use Rattle.rules.proofs.telegrams.heed.Statement.{statement}
