@@ -9,7 +9,6 @@ use links::link::Link;
 use panel::Panel;
 use panel::calls::Answered;
 use tags::PLACES;
-ghost use Prim.Native.Nat.{_<_};
 ghost use mathlib.Core.Path.{_≡_};
 ghost use mathlib.Core.Bool.{true, not};
 ghost use mathlib.Core.List.{[], _∷_};

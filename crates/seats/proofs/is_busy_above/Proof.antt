@@ -1,3 +1,4 @@
+-- A tag that is absent or stands below decides at once; else its blind does.
 use borrow.Author.Needs.{needs}
 use borrow.Author.Tests.{le-leb, lt-leb, not-false, not-true}
 use Rattle.seats.proofs.is_busy_above.Statement.{statement}

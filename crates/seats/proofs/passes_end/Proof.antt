@@ -1,3 +1,4 @@
+-- A tag that is absent or stands below decides at once; else what is left of the strip is compared with n.
 use Prim.Native.Nat.{_+_}
 use native.Mathlib.Omega.{arith}
 use borrow.Author.Needs.{needs}

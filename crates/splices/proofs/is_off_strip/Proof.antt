@@ -1,3 +1,4 @@
+-- One test for each of the three; the last compares what is left of the strip with n.
 use borrow.Author.Needs.{needs}
 use borrow.Author.Tests.{le-leb, lt-leb, eq-eqb, ne-eqb}
 use Rattle.splices.specs.Splices.{offStrip}

@@ -1,3 +1,4 @@
+-- The test decides the choice of the definition; n is at most the end, so the difference is one.
 use native.Mathlib.Omega.{arith}
 use borrow.Author.Needs.{needs}
 use borrow.Author.Tests.{le-leb, lt-leb}

@@ -1,3 +1,4 @@
+-- Each test decides the choice of the definition; past the last one the sum is on the strip.
 use Prim.Native.Nat.{_+_}
 use native.Mathlib.Omega.{arith}
 use borrow.Author.Needs.{needs}

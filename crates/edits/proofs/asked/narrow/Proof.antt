@@ -1,3 +1,4 @@
+-- The test decides whether the time fits.
 use borrow.Author.Needs.{needs}
 use borrow.Author.Tests.{le-leb, lt-leb}
 use Rattle.edits.specs.Narrow.{narrow}

@@ -1,3 +1,4 @@
+-- One arm for each number; any other is ignore.
 use borrow.Author.Tests.{ne-eqb}
 use Rattle.edits.specs.Parameters.{reactionOf}
 use Rattle.edits.proofs.asked.reaction.Statement.{statement}

@@ -1,3 +1,4 @@
+-- One test for each argument.
 use borrow.Author.Needs.{needs}
 use borrow.Author.Tests.{le-leb, lt-leb}
 use Rattle.edits.proofs.blinds.is_outside.Statement.{statement}

@@ -1,3 +1,4 @@
+-- One test for each bound of a link; 63 is the last tag below 64.
 use native.Mathlib.Omega.{arith}
 use borrow.Author.Tests.{le-leb, lt-leb}
 use Rattle.links.specs.Links.{inRange}

@@ -1,3 +1,4 @@
+-- A link in range fits its fields.
 use native.Mathlib.Omega.{arith}
 use borrow.Author.Needs.{needs}
 use Rattle.links.proofs.Keys.{InRange, range-reads}

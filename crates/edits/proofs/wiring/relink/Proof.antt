@@ -1,3 +1,4 @@
+-- Only the table is another one: the seats are read from the same fields.
 use mathlib.Core.Path.{refl}
 use Rattle.panel.specs.Panel.{seatsOf}
 use Rattle.edits.proofs.wiring.relink.Statement.{statement}

@@ -1,3 +1,4 @@
+-- The numbers of the default parameters.
 use borrow.Author.Needs.{needs}
 use Rattle.edits.proofs.asked.Asked.default_set.Statement.{statement}
 use Rattle.edits.proofs.asked.Asked.default_set.Tie as tie

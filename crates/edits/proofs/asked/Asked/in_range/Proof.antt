@@ -1,3 +1,4 @@
+-- The reactions first; then the narrowed parameters are in range exactly if those asked for are.
 use borrow.Author.Needs.{needs}
 use borrow.Author.Tests.{le-leb, lt-leb}
 use Rattle.edits.specs.Parameters.{allowed}

@@ -1,3 +1,4 @@
+-- Field by field, each reaction by its number.
 use borrow.Author.Needs.{needs}
 use Rattle.edits.specs.Parameters.{askedOf}
 use Rattle.edits.proofs.asked.Asked.of.Statement.{statement}

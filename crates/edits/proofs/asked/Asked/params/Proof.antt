@@ -1,3 +1,4 @@
+-- Field by field: each time narrowed, each reaction by its number.
 use borrow.Author.Needs.{needs}
 use Rattle.edits.specs.Narrow.{narrowed}
 use Rattle.edits.proofs.asked.Asked.params.Statement.{statement}
