@@ -51,9 +51,11 @@ judged (check ∷ rest) e = go (check .0) refl (judged rest (both-right (within 
   where
     range : within 1 12 (check .1) ≡ true
     range = both-left (within 1 12 (check .1)) (inTable rest) e
+
     next : {n : ℕ} → check .0 ≡ false → Judged rest n → Judged (check ∷ rest) n
     next off (passes p) = passes (more off p)
     next off (refuses n l k f) = refuses n l k (later off f)
+
     go : (t : Bool) → check .0 ≡ t → Judged rest (refusal rest) → Judged (check ∷ rest) (cond t (check .1) (refusal rest))
     go true on j =
         refuses (check .1) (leb-true 1 (check .1) (both-left (leb 1 (check .1)) (leb (check .1) 12) range))
@@ -70,6 +72,7 @@ answers call m cells = go (judged (checksOf call m cells) (all-in-table call m c
         cond (eqb n 0)
         (record { answer = 0; count = countOf call m; lowest = lowestOf call m; panel = panelAfter call m; cells = cellsAfter call m cells })
         (record { answer = n; count = 0; lowest = 0; panel = m; cells = cells })
+
     go : {n : ℕ} → Judged (checksOf call m cells) n → Answers call m cells (by n)
     go (passes p) = done p
     go (refuses n least most f) =

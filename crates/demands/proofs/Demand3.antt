@@ -179,6 +179,7 @@ agree old new x y (inr e) = (both-old (eqb x 0) ∙ sym (both-old (eqb y 0)), bo
     both-old : (t : Bool) → cond t new old ≡ old
     both-old true = e
     both-old false = refl
+
     both-none : (t : Bool) → cond t (report old new) noReport ≡ noReport
     both-none true = ap (report old) e ∙ report-same old
     both-none false = refl
@@ -227,33 +228,34 @@ module _ (tag address value : ℕ) (cells : List ℕ) (a b : Model) where
       let new = heardBy value (reached tag address a) blind in
       let same-links : reached tag address a ≡ reached tag address b = reached-same tag address a b (k .links) in
       let choice : (ls : List Link) → reached tag address a ≡ ls → (ta .answer ≡ tb .answer) ⊎ (new ≡ blind) =
-          elim
-          [ [] ↦ λ e. inr (ap (λ (l : List Link). heardBy value l blind) e)
-          | link ∷ rest ↦ λ e.
-            inl (same-answer seat-a seat-b (k .fine-a .sound) (k .fine-b .sound) there-a there-b link rest e (sym same-links ∙ e)) ] in
+      elim [
+        | [] ↦ λ e. inr (ap (λ (l : List Link). heardBy value l blind) e)
+        | link ∷ rest ↦ λ e.
+            inl (same-answer seat-a seat-b (k .fine-a .sound) (k .fine-b .sound) there-a there-b link rest e (sym same-links ∙ e))
+      ] in
       let same = agree blind new (ta .answer) (tb .answer) (choice (reached tag address a) refl) in
       let blind-a =
-          leaves-blind tag a cells seat-a there-a (does (telegram address value) a cells) ta (heardBy value (reached tag address a) (seat-a .blind))
-          (Bridges.telegram-does a cells address value)
-          (telegram-local address value a cells tag seat-a (k .fine-a .sound) there-a) (telegram-refused address value a cells)
-          ∙ ap (λ (x : Blind). some (cond (eqb (ta .answer) 0) (heardBy value (reached tag address a) x) x)) is-a in
+      leaves-blind tag a cells seat-a there-a (does (telegram address value) a cells) ta (heardBy value (reached tag address a) (seat-a .blind))
+      (Bridges.telegram-does a cells address value)
+      (telegram-local address value a cells tag seat-a (k .fine-a .sound) there-a) (telegram-refused address value a cells)
+      ∙ ap (λ (x : Blind). some (cond (eqb (ta .answer) 0) (heardBy value (reached tag address a) x) x)) is-a in
       let blind-b =
-          leaves-blind tag b cells seat-b there-b (does (telegram address value) b cells) tb (heardBy value (reached tag address b) (seat-b .blind))
-          (Bridges.telegram-does b cells address value)
-          (telegram-local address value b cells tag seat-b (k .fine-b .sound) there-b) (telegram-refused address value b cells)
-          ∙ ap (λ (x : Blind). some (cond (eqb (tb .answer) 0) (heardBy value (reached tag address b) x) x)) is-b
-          ∙ ap (λ (ls : List Link). some (cond (eqb (tb .answer) 0) (heardBy value ls blind) blind)) (sym same-links) in
+      leaves-blind tag b cells seat-b there-b (does (telegram address value) b cells) tb (heardBy value (reached tag address b) (seat-b .blind))
+      (Bridges.telegram-does b cells address value)
+      (telegram-local address value b cells tag seat-b (k .fine-b .sound) there-b) (telegram-refused address value b cells)
+      ∙ ap (λ (x : Blind). some (cond (eqb (tb .answer) 0) (heardBy value (reached tag address b) x) x)) is-b
+      ∙ ap (λ (ls : List Link). some (cond (eqb (tb .answer) 0) (heardBy value ls blind) blind)) (sym same-links) in
       let report-a =
-          leaves-report tag a cells seat-a there-a (does (telegram address value) a cells) ta (heardBy value (reached tag address a) (seat-a .blind))
-          (Bridges.telegram-does a cells address value)
-          (telegram-local address value a cells tag seat-a (k .fine-a .sound) there-a) (telegram-refused address value a cells)
-          ∙ ap (λ (x : Blind). cond (eqb (ta .answer) 0) (report x (heardBy value (reached tag address a) x)) noReport) is-a in
+      leaves-report tag a cells seat-a there-a (does (telegram address value) a cells) ta (heardBy value (reached tag address a) (seat-a .blind))
+      (Bridges.telegram-does a cells address value)
+      (telegram-local address value a cells tag seat-a (k .fine-a .sound) there-a) (telegram-refused address value a cells)
+      ∙ ap (λ (x : Blind). cond (eqb (ta .answer) 0) (report x (heardBy value (reached tag address a) x)) noReport) is-a in
       let report-b =
-          leaves-report tag b cells seat-b there-b (does (telegram address value) b cells) tb (heardBy value (reached tag address b) (seat-b .blind))
-          (Bridges.telegram-does b cells address value)
-          (telegram-local address value b cells tag seat-b (k .fine-b .sound) there-b) (telegram-refused address value b cells)
-          ∙ ap (λ (x : Blind). cond (eqb (tb .answer) 0) (report x (heardBy value (reached tag address b) x)) noReport) is-b
-          ∙ ap (λ (ls : List Link). cond (eqb (tb .answer) 0) (report blind (heardBy value ls blind)) noReport) (sym same-links) in
+      leaves-report tag b cells seat-b there-b (does (telegram address value) b cells) tb (heardBy value (reached tag address b) (seat-b .blind))
+      (Bridges.telegram-does b cells address value)
+      (telegram-local address value b cells tag seat-b (k .fine-b .sound) there-b) (telegram-refused address value b cells)
+      ∙ ap (λ (x : Blind). cond (eqb (tb .answer) 0) (report x (heardBy value (reached tag address b) x)) noReport) is-b
+      ∙ ap (λ (ls : List Link). cond (eqb (tb .answer) 0) (report blind (heardBy value ls blind)) noReport) (sym same-links) in
       record {
         blind = cond (eqb (ta .answer) 0) new blind;
         alike =
@@ -295,21 +297,21 @@ module _ (tag dt : ℕ) (cells : List ℕ) (a b : Model) where
       let answers : ta .answer ≡ tb .answer = step-answer a (k .fine-a .sound) ∙ sym (step-answer b (k .fine-b .sound)) in
       let same = agree blind new (ta .answer) (tb .answer) (inl answers) in
       let blind-a =
-          leaves-blind tag a cells seat-a there-a (does (timeStep dt) a cells) ta (milliseconds dt (seat-a .blind)) (Bridges.time-step-does a cells dt)
-          (time-step-local dt a cells tag seat-a (k .fine-a .sound) there-a) (time-step-refused dt a cells)
-          ∙ ap (λ (x : Blind). some (cond (eqb (ta .answer) 0) (milliseconds dt x) x)) is-a in
+      leaves-blind tag a cells seat-a there-a (does (timeStep dt) a cells) ta (milliseconds dt (seat-a .blind)) (Bridges.time-step-does a cells dt)
+      (time-step-local dt a cells tag seat-a (k .fine-a .sound) there-a) (time-step-refused dt a cells)
+      ∙ ap (λ (x : Blind). some (cond (eqb (ta .answer) 0) (milliseconds dt x) x)) is-a in
       let blind-b =
-          leaves-blind tag b cells seat-b there-b (does (timeStep dt) b cells) tb (milliseconds dt (seat-b .blind)) (Bridges.time-step-does b cells dt)
-          (time-step-local dt b cells tag seat-b (k .fine-b .sound) there-b) (time-step-refused dt b cells)
-          ∙ ap (λ (x : Blind). some (cond (eqb (tb .answer) 0) (milliseconds dt x) x)) is-b in
+      leaves-blind tag b cells seat-b there-b (does (timeStep dt) b cells) tb (milliseconds dt (seat-b .blind)) (Bridges.time-step-does b cells dt)
+      (time-step-local dt b cells tag seat-b (k .fine-b .sound) there-b) (time-step-refused dt b cells)
+      ∙ ap (λ (x : Blind). some (cond (eqb (tb .answer) 0) (milliseconds dt x) x)) is-b in
       let report-a =
-          leaves-report tag a cells seat-a there-a (does (timeStep dt) a cells) ta (milliseconds dt (seat-a .blind)) (Bridges.time-step-does a cells dt)
-          (time-step-local dt a cells tag seat-a (k .fine-a .sound) there-a) (time-step-refused dt a cells)
-          ∙ ap (λ (x : Blind). cond (eqb (ta .answer) 0) (report x (milliseconds dt x)) noReport) is-a in
+      leaves-report tag a cells seat-a there-a (does (timeStep dt) a cells) ta (milliseconds dt (seat-a .blind)) (Bridges.time-step-does a cells dt)
+      (time-step-local dt a cells tag seat-a (k .fine-a .sound) there-a) (time-step-refused dt a cells)
+      ∙ ap (λ (x : Blind). cond (eqb (ta .answer) 0) (report x (milliseconds dt x)) noReport) is-a in
       let report-b =
-          leaves-report tag b cells seat-b there-b (does (timeStep dt) b cells) tb (milliseconds dt (seat-b .blind)) (Bridges.time-step-does b cells dt)
-          (time-step-local dt b cells tag seat-b (k .fine-b .sound) there-b) (time-step-refused dt b cells)
-          ∙ ap (λ (x : Blind). cond (eqb (tb .answer) 0) (report x (milliseconds dt x)) noReport) is-b in
+      leaves-report tag b cells seat-b there-b (does (timeStep dt) b cells) tb (milliseconds dt (seat-b .blind)) (Bridges.time-step-does b cells dt)
+      (time-step-local dt b cells tag seat-b (k .fine-b .sound) there-b) (time-step-refused dt b cells)
+      ∙ ap (λ (x : Blind). cond (eqb (tb .answer) 0) (report x (milliseconds dt x)) noReport) is-b in
       record {
         blind = cond (eqb (ta .answer) 0) new blind;
         alike =

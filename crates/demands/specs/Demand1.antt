@@ -22,6 +22,6 @@ pub data Passed : List Check → Type 0 where
 -- What a caller may count on, whatever the panel holds.
 pub data Answers (call : Call) (m : Model) (cells : List ℕ) : Result → Type 0 where
   done : Passed (checksOf call m cells)
-    → Answers call m cells (record { answer = 0; count = countOf call m; lowest = lowestOf call m; panel = panelAfter call m; cells = cellsAfter call m cells })
+      → Answers call m cells (record { answer = 0; count = countOf call m; lowest = lowestOf call m; panel = panelAfter call m; cells = cellsAfter call m cells })
   refused : (number : ℕ) → 1 ≤ number → number ≤ 12 → First (checksOf call m cells) number
-    → Answers call m cells (record { answer = number; count = 0; lowest = 0; panel = m; cells = cells })
+      → Answers call m cells (record { answer = number; count = 0; lowest = 0; panel = m; cells = cells })
