@@ -114,7 +114,8 @@ fn deliver(panel: Panel, span: Span, value: u8) -> Panel
 {
     let table = panel.table;
     let start = span.start;
-    let end = start + span.count;
+    let count = span.count;
+    let end = start + count;
     let mut next = panel;
     let mut i = start;
     while i < end {

@@ -14,10 +14,10 @@ use Rattle.bus.proofs.telegrams.deliver.Statement.{statement}
 use Rattle.bus.proofs.telegrams.deliver.Tie as tie
 
 abbrev Inv-loop : tie.InvT-loop
-Inv-loop value table start end next₀ i₀ next i = Delivering value next₀ start end next i
+Inv-loop value table start count end next₀ i₀ next i = Delivering value next₀ start end next i
 
 abbrev μ-loop : tie.MeasureT-loop
-μ-loop value table start end next₀ i₀ next i = end - i
+μ-loop value table start count end next₀ i₀ next i = end - i
 
 -- the table has its 512 places
 places-of : (c : tie.Start Inv-loop μ-loop) → length (c .args .panel .table .links) ≡ 512
@@ -29,19 +29,19 @@ behind c = c .args .span .start + c .args .span .count
 
 loop-holds : tie.Need-loop-holds Inv-loop μ-loop
 loop-holds c =
-    let start = c .before .before in
+    let start = c .before in
     deliver-start (start .args .value) (start .args .panel) (start .args .span .start) (behind start) (search (long, needs))
 
 loop-again : tie.Need-loop-again Inv-loop μ-loop
 loop-again c =
     let at = c .before .before .before .before .before in
-    let start = at .before .before .before in
+    let start = at .before .before in
     deliver-turn (start .args .value) (start .args .panel) (start .args .span .start) (behind start) (start .pre .0) (places-of start) (start .pre .1)
     (at .loop .next) (at .loop .i) (c .hear .result) (c .before .before .before .before .loop-test .taken) (c .hear .ensures) (at .loop .inv)
 
 returns : tie.Need-returns Inv-loop μ-loop
 returns c =
-    let start = c .before .before .before .before in
+    let start = c .before .before .before in
     let m = modelOf (start .args .panel) in
     let counted : behind start - start .args .span .start ≡ start .args .span .count = omega arith in
     deliver-end (start .args .value) (start .args .panel) (start .args .span .start) (behind start) (c .before .loop .next) (c .before .loop .i)
@@ -51,13 +51,13 @@ returns c =
 -- the table is not longer than it may be
 short : (c : tie.In-loop Inv-loop μ-loop) → c .before .loop .i < 512
 short c =
-    let start = c .before .before .before .before in
+    let start = c .before .before .before in
     omega (arith, c .loop-test .taken, start .pre .1, start .pre .0 .links .at-most)
 
 -- the tag of the link is one of the 64
-low : (c : tie.In-loop Inv-loop μ-loop) → getD (c .before .before .before .before .args .panel .table .links) (c .before .loop .i) nothing .tag < places
+low : (c : tie.In-loop Inv-loop μ-loop) → getD (c .before .before .before .args .panel .table .links) (c .before .loop .i) nothing .tag < places
 low c =
-    let start = c .before .before .before .before in
+    let start = c .before .before .before in
     tag-low (start .args .value) (start .args .panel) (start .args .span .start) (behind start) (start .pre .0) (places-of start) (start .pre .1)
     (c .before .loop .i) (c .loop-test .taken)
 
@@ -67,7 +67,7 @@ deliver-spec =
     (tie.spec
     Inv-loop
     μ-loop
-    (λ c. omega (arith, c .before .before .pre .1, c .before .before .pre .0 .links .at-most))
+    (λ c. omega (arith, c .before .pre .1, c .before .pre .0 .links .at-most))
     loop-holds
     (λ c. omega (arith, short c))
     (λ c. omega (arith, short c))
