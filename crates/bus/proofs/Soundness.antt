@@ -9,7 +9,8 @@ use Rattle.blind.specs.Millisecond.{milliseconds}
 use Rattle.reading.specs.Sound as ofBlind
 use Rattle.rules.specs.Rules.{heeded}
 use Rattle.rules.specs.Telegrams.{inputOf}
-use Rattle.conduct.proofs.Soundness.{heeded-sound, input-of-class, milliseconds-sound}
+use Rattle.conduct.proofs.Motions.{milliseconds-sound}
+use Rattle.conduct.proofs.Soundness.{heeded-sound, input-of-class}
 use Rattle.links.specs.declared.link.Link.{Link}
 use Rattle.panel.specs.Panel.{Seat, Model, presentIn, eachSeat}
 use Rattle.panel.specs.Sound.{Sound}

@@ -27,7 +27,8 @@ use Rattle.rules.specs.Inputs.{target, towards, aimedBetween, aimed, followed, 
 use Rattle.rules.specs.Rules.{dutyOf, isFree, commanded, heeded}
 use Rattle.conduct.specs.Courses.{Event, after, duration, Undisturbed, Engaged, waits, runs, untilEnd, Reaches}
 use Rattle.conduct.proofs.AtOnce.{besideBy, movedBy}
-use Rattle.conduct.proofs.Soundness.{target-sound, heeded-sound}
+use Rattle.conduct.proofs.Motions.{target-sound}
+use Rattle.conduct.proofs.Soundness.{heeded-sound}
 use Rattle.conduct.proofs.Undisturbed.{undisturbed, seen}
 
 -- ---- what an order leaves: its run is on, and the blind stands where it stood

@@ -55,9 +55,9 @@ record Alike (tag : ℕ) (blind : Blind) (a b : Model) : Type 0 where
 -- ---- what is inserted
 
 -- the blind and the links of a tag are as they were
-record Spared (tag : ℕ) (m n : Model) : Type 0 where
-  blind : blindAt tag n ≡ blindAt tag m
-  links : linksOf tag n ≡ linksOf tag m
+pub record Spared (tag : ℕ) (m n : Model) : Type 0 where
+  pub blind : blindAt tag n ≡ blindAt tag m
+  pub links : linksOf tag n ≡ linksOf tag m
 
 of-untouched : (tag : ℕ) (m n : Model) → Untouched tag m n → Spared tag m n
 of-untouched tag m n u = record { blind = ap (Option·map (λ (seat : Seat). seat .blind)) (u .seat); links = u .links }
@@ -68,35 +68,35 @@ of-terminals tag m n o = record { blind = o .blinds tag; links = ap (λ t. kept 
 as-it-was : (tag : ℕ) (m : Model) → Spared tag m m
 as-it-was tag m = record { blind = refl; links = refl }
 
-spared : (tag : ℕ) (call : Call) (m : Model) → Spares tag call → Spared tag m (does call m [] .panel)
-spared tag (telegram address value) m s = absurd s
-spared tag (timeStep dt) m s = absurd s
-spared tag strip m s =
-    subst (Spared tag m) (sym (ap (λ (o : Outcome Left). o .leaves .panel) (Bridges.strip-does m []) ∙ strip-keeps m [])) (as-it-was tag m)
-spared tag (install other terminal asked) m s =
-    subst (λ (o : Outcome Model). Spared tag m (o .leaves)) (sym (Bridges.install-does m [] other terminal asked))
+pub spared : (tag : ℕ) (call : Call) (m : Model) (cells : List ℕ) → Spares tag call → Spared tag m (does call m cells .panel)
+spared tag (telegram address value) m cells s = absurd s
+spared tag (timeStep dt) m cells s = absurd s
+spared tag strip m cells s =
+    subst (Spared tag m) (sym (ap (λ (o : Outcome Left). o .leaves .panel) (Bridges.strip-does m cells) ∙ strip-keeps m cells)) (as-it-was tag m)
+spared tag (install other terminal asked) m cells s =
+    subst (λ (o : Outcome Model). Spared tag m (o .leaves)) (sym (Bridges.install-does m cells other terminal asked))
     (of-untouched tag m _ (install-untouched tag m other terminal asked s))
-spared tag (removeBlind other) m s =
-    subst (λ (o : Outcome Model). Spared tag m (o .leaves)) (sym (Bridges.remove-does m [] other))
+spared tag (removeBlind other) m cells s =
+    subst (λ (o : Outcome Model). Spared tag m (o .leaves)) (sym (Bridges.remove-does m cells other))
     (of-untouched tag m _ (remove-untouched tag m other s))
-spared tag (writeParams other asked) m s =
-    subst (λ (o : Outcome Model). Spared tag m (o .leaves)) (sym (Bridges.write-does m [] other asked))
+spared tag (writeParams other asked) m cells s =
+    subst (λ (o : Outcome Model). Spared tag m (o .leaves)) (sym (Bridges.write-does m cells other asked))
     (of-untouched tag m _ (write-untouched tag m other asked s))
-spared tag (addLink link) m s =
-    subst (λ (o : Outcome Model). Spared tag m (o .leaves)) (sym (Bridges.add-does m [] link))
+spared tag (addLink link) m cells s =
+    subst (λ (o : Outcome Model). Spared tag m (o .leaves)) (sym (Bridges.add-does m cells link))
     (of-untouched tag m _ (add-untouched tag m link s))
-spared tag (removeLink link) m s =
-    subst (λ (o : Outcome Model). Spared tag m (o .leaves)) (sym (Bridges.remove-link-does m [] link))
+spared tag (removeLink link) m cells s =
+    subst (λ (o : Outcome Model). Spared tag m (o .leaves)) (sym (Bridges.remove-link-does m cells link))
     (of-untouched tag m _ (remove-link-untouched tag m link s))
-spared tag (spliceIn t n) m s =
-    subst (λ (o : Outcome Model). Spared tag m (o .leaves)) (sym (Bridges.splice-in-does m [] t n)) (of-terminals tag m _ (splice-in-only t n m))
-spared tag (spliceOut t n) m s =
-    subst (λ (o : Outcome Model). Spared tag m (o .leaves)) (sym (Bridges.splice-out-does m [] t n)) (of-terminals tag m _ (splice-out-only t n m))
-spared tag inventory m s = subst (Spared tag m) (sym (inventory-keeps m [])) (as-it-was tag m)
+spared tag (spliceIn t n) m cells s =
+    subst (λ (o : Outcome Model). Spared tag m (o .leaves)) (sym (Bridges.splice-in-does m cells t n)) (of-terminals tag m _ (splice-in-only t n m))
+spared tag (spliceOut t n) m cells s =
+    subst (λ (o : Outcome Model). Spared tag m (o .leaves)) (sym (Bridges.splice-out-does m cells t n)) (of-terminals tag m _ (splice-out-only t n m))
+spared tag inventory m cells s = subst (Spared tag m) (sym (inventory-keeps m cells)) (as-it-was tag m)
 
 insert-alike : {tag : ℕ} {blind : Blind} (a b : Model) (call : Call) → Spares tag call → Alike tag blind a b → Alike tag blind a (does call b [] .panel)
 insert-alike {tag} a b call s k =
-    let same : Spared tag b (does call b [] .panel) = spared tag call b s in
+    let same : Spared tag b (does call b [] .panel) = spared tag call b [] s in
     record {
       fine-a = k .fine-a;
       fine-b = kept-fine call b [] (k .fine-b);
@@ -127,7 +127,7 @@ seated : Option Blind → Bool
 seated none = false
 seated (some b) = true
 
-seat-of : (o : Option Seat) (b : Blind) → Option·map {B = Blind} (λ (seat : Seat). seat .blind) o ≡ some b
+pub seat-of : (o : Option Seat) (b : Blind) → Option·map {B = Blind} (λ (seat : Seat). seat .blind) o ≡ some b
     → (seat : Seat) × (o ≡ some seat) × (seat .blind ≡ b)
 unfolding seated
 seat-of none b e = never-both false (ap seated e) refl
@@ -139,7 +139,7 @@ module _ (tag : ℕ) (m : Model) (cells : List ℕ) (seat : Seat) (there : m .se
     (same : Bridges.withCells r ≡ t)
     (done : t .answer ≡ 0 → SeenAt (t .leaves) tag seat new)
     (refused : (t .answer ≡ 0 → ⊥) → t .leaves ≡ record { panel = m; cells = cells }) where
-  leaves-blind : blindAt tag (r .panel) ≡ some (cond (eqb (t .answer) 0) new (seat .blind))
+  pub leaves-blind : blindAt tag (r .panel) ≡ some (cond (eqb (t .answer) 0) new (seat .blind))
   leaves-blind = ap (λ (o : Outcome Left). blindAt tag (o .leaves .panel)) same ∙ go (ℕ-discrete (t .answer) 0)
     where
       go : Dec (t .answer ≡ 0) → blindAt tag (t .leaves .panel) ≡ some (cond (eqb (t .answer) 0) new (seat .blind))
@@ -337,7 +337,7 @@ strip-answer m s =
     ∙ lent-right terminals allOff m false [] (tabulate-length terminals (λ t. 0))
     ∙ sound-passed m false [] (sound-tested m s)
 
-motor-seen : (tag : ℕ) (m : Model) (blind : Blind) → Sound m → blindAt tag m ≡ some blind → motorSeen tag m ≡ motorOf blind
+pub motor-seen : (tag : ℕ) (m : Model) (blind : Blind) → Sound m → blindAt tag m ≡ some blind → motorSeen tag m ≡ motorOf blind
 unfolding motorSeen
 motor-seen tag m blind s e =
     let (seat, there, is) = seat-of (m .seats tag) blind e in

@@ -9,7 +9,8 @@ use mathlib.Core.Option.{Option, none, some, Option·map}
 use lib.ListN.{length, getD}
 use borrow.Author.Tests.{eqb-false, not-true}
 use Rattle.answers.specs.Answers.{Outcome}
-use Rattle.conduct.proofs.Soundness.{fresh-sound, rewritten-sound}
+use Rattle.conduct.proofs.Motions.{fresh-sound}
+use Rattle.conduct.proofs.Soundness.{rewritten-sound}
 use Rattle.links.specs.declared.link.Link.{Link}
 use Rattle.links.specs.Links.{kept, keyOf, Held, holding}
 use Rattle.links.specs.Sound as ofLinks
