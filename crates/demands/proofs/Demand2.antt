@@ -53,7 +53,9 @@ use Rattle.demands.specs.Demand2.{Moment, pauseIn, momentOf, moments, mo
 use Rattle.demands.specs.Demand3.{motorSeen}
 use Rattle.demands.proofs.Bridges
 use Rattle.demands.proofs.Soundness.{Fine, kept-fine}
-use Rattle.demands.proofs.Demand3.{spared, seat-of, motor-seen, leaves-blind}
+use Rattle.demands.proofs.Alike.{spared}
+use Rattle.demands.proofs.Stepping.{seat-of, leaves-blind}
+use Rattle.demands.proofs.Demand3.{motor-seen}
 use Rattle.demands.proofs.Paying.{Fair, none-fair, more-owed, momentIn, momentsIn, step-fair}
 
 -- ---- the moments on the strip are those of the blind

@@ -1,6 +1,8 @@
 pub mod Demand1
 pub mod Bridges
 pub mod Soundness
+pub mod Alike
+pub mod Stepping
 pub mod Demand3
 pub mod Afresh
 pub mod Paying
