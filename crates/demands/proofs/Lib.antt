@@ -7,3 +7,4 @@ pub mod Demand3
 pub mod Afresh
 pub mod Paying
 pub mod Demand2
+pub mod Cases

@@ -2,29 +2,37 @@
 -- Assumes nothing.
 use Prim.Native.Nat.{ℕ}
 use native.Mathlib.Decide.{ℕ-discrete}
-use mathlib.Core.Path.{_≡_, refl, sym, ap, subst}
-use mathlib.Core.Bool.{Bool, true, false, cond}
-use lib.Dec.{eqb}
-use mathlib.Core.List.{List}
+use mathlib.Core.Path.{_≡_, refl, sym, ap, _∙_, subst}
+use mathlib.Core.Bool.{Bool, true, false, cond, not, _&&_}
+use lib.Dec.{eqb, ltb}
+use native.Mathlib.Omega.{arith}
+use borrow.Author.Tests.{eqb-false, not-true}
+use Rattle.laws.proofs.Choices.{both-left, both-right}
+use mathlib.Core.List.{List, [], _∷_}
 use mathlib.Core.Option.{none, some, Option·map}
 use lib.ListN.{length}
-use Rattle.answers.specs.Answers.{refusal, Outcome, answered}
+use Rattle.answers.specs.Answers.{Check, refusal, Outcome, answered}
+use Rattle.answers.proofs.Refusals.{passed-by}
 use Rattle.links.specs.declared.link.Link.{Link}
 use Rattle.links.specs.Links.{keyOf, linksTo, holding}
 use Rattle.links.specs.Edits.{inserted, deleted, dropped}
 use Rattle.links.specs.Sound as ofLinks
 use Rattle.panel.specs.Panel.{Model, reseated, eachSeat, relinked}
-use Rattle.panel.specs.Sound.{Sound}
-use Rattle.panel.specs.Calls.{Left}
+use Rattle.panel.specs.Sound.{Sound, isSound}
+use Rattle.panel.specs.Strip.{terminals}
+use Rattle.panel.proofs.Decides.{sound-tested}
+use Rattle.tags.specs.Tags.{places}
+use Rattle.panel.specs.Calls.{unsound, outside, checks, lentChecks, Left}
 use Rattle.bus.proofs.Outcomes.{telegram-keeps-sound, time-step-keeps-sound, strip-keeps-sound, strip-keeps, leaves-has}
 use Rattle.bus.proofs.Locality.{delivered-table}
-use Rattle.bus.specs.Telegrams.{afterTelegram, telegrammed}
-use Rattle.bus.specs.TimeSteps.{afterStep, timeStepped}
+use Rattle.bus.specs.Telegrams.{isOutside, linkChecks, telegramChecks, afterTelegram, telegrammed}
+use Rattle.bus.specs.Strip.{stripChecks}
+use Rattle.bus.specs.TimeSteps.{longest, stepChecks, afterStep, timeStepped}
 use Rattle.seats.proofs.Leaves.{left-has, kept-whole}
 use Rattle.edits.specs.Parameters.{paramsOf}
-use Rattle.edits.specs.Edits.{freshSeat, seatRewritten, installed, blindRemoved, paramsWritten, linkAdded, linkRemoved}
+use Rattle.edits.specs.Edits.{installChecks, removeChecks, writeChecks, addChecks, removeLinkChecks, freshSeat, seatRewritten, installed, blindRemoved, paramsWritten, linkAdded, linkRemoved}
 use Rattle.edits.proofs.Soundness.{OfPanel, install-sound, write-sound, remove-sound, add-sound, remove-link-sound}
-use Rattle.splices.specs.Splices.{splicedIn, splicedOut}
+use Rattle.splices.specs.Splices.{inChecks, outChecks, splicedIn, splicedOut}
 use Rattle.splices.proofs.Soundness.{splice-in-sound, splice-out-sound}
 use Rattle.splices.proofs.Untouched.{splice-in-only, splice-out-only}
 use Rattle.demands.specs.Calls.{Call, telegram, timeStep, strip, install, removeBlind, writeParams, addLink, removeLink, spliceIn, spliceOut, inventory, checksOf, panelAfter, cellsAfter, countOf, lowestOf, Result, does}
@@ -143,3 +151,67 @@ kept-fine (spliceOut t n) m cells f =
       full = same-table m (splicedOut t n m .leaves) (splice-out-only t n m .table) (f .full);
     })
 kept-fine inventory m cells f = subst Fine (sym (inventory-keeps m cells)) f
+
+-- ---- a sound panel is never answered 12
+
+-- no check of a list has the number 12
+unfoldable others : List Check → Bool
+others [] = true
+others (check ∷ rest) = not (eqb (check .1) 12) && others rest
+
+not-12 : (list : List Check) → others list ≡ true → refusal list ≡ 12 → ⊥
+unfolding others refusal
+not-12 [] e twelve = omega arith
+not-12 (check ∷ rest) e twelve = go (check .0) (not-12 rest (both-right (not (eqb (check .1) 12)) (others rest) e)) twelve
+  where
+    number : check .1 ≡ 12 → ⊥
+    number = eqb-false (check .1) 12 (not-true (eqb (check .1) 12) (both-left (not (eqb (check .1) 12)) (others rest) e))
+
+    go : (t : Bool) → (refusal rest ≡ 12 → ⊥) → cond t (check .1) (refusal rest) ≡ 12 → ⊥
+    go true later h = number h
+    go false later h = later h
+
+module _ (m : Model) (s : Sound m) where
+  -- the check of 12 is passed
+  past : (rest : List Check) → refusal (unsound m ∷ rest) ≡ refusal rest
+  past rest = passed-by (not (isSound m)) 12 rest (ap not (sound-tested m s))
+
+  checked : (out : Bool) (own : List Check) → others own ≡ true → refusal (checks m out own) ≡ 12 → ⊥
+  unfolding checks others
+  checked out own e h = not-12 (outside out ∷ own) e (sym (past (outside out ∷ own)) ∙ h)
+
+  lent-checked : (n : ℕ) (cells : List ℕ) (out : Bool) (own : List Check) → others own ≡ true → refusal (lentChecks n cells m out own) ≡ 12 → ⊥
+  unfolding lentChecks refusal
+  lent-checked n cells out own e h = go (not (eqb (length cells) n)) h
+    where
+      go : (t : Bool) → cond t 11 (refusal (checks m out own)) ≡ 12 → ⊥
+      go true f = omega arith
+      go false f = checked out own e f
+
+  sound-refusal : (call : Call) (cells : List ℕ) → refusal (checksOf call m cells) ≡ 12 → ⊥
+  unfolding checksOf telegramChecks stepChecks stripChecks linkChecks installChecks removeChecks writeChecks addChecks removeLinkChecks inChecks outChecks others
+  sound-refusal (telegram address value) cells = lent-checked places cells (isOutside address value) (linkChecks address value (m .table .links)) refl
+  sound-refusal (timeStep dt) cells = lent-checked places cells (ltb longest dt) [] refl
+  sound-refusal strip cells = lent-checked terminals cells false [] refl
+  sound-refusal (install tag terminal asked) cells = checked _ _ refl
+  sound-refusal (removeBlind tag) cells = checked _ _ refl
+  sound-refusal (writeParams tag asked) cells = checked _ _ refl
+  sound-refusal (addLink link) cells = checked _ _ refl
+  sound-refusal (removeLink link) cells = checked _ _ refl
+  sound-refusal (spliceIn t n) cells = checked _ _ refl
+  sound-refusal (spliceOut t n) cells = checked _ _ refl
+  sound-refusal inventory cells = λ h. not-12 [] refl (sym (past []) ∙ h)
+
+  pub never-12 : (call : Call) (cells : List ℕ) → does call m cells .answer ≡ 12 → ⊥
+  unfolding does
+  never-12 call cells h = go (eqb (refusal (checksOf call m cells)) 0) h
+    where
+      go : (t : Bool)
+          → cond {A = Result} t
+          (record { answer = 0; count = countOf call m; lowest = lowestOf call m; panel = panelAfter call m; cells = cellsAfter call m cells })
+          (record { answer = refusal (checksOf call m cells); count = 0; lowest = 0; panel = m; cells = cells })
+          .answer
+          ≡ 12
+          → ⊥
+      go true f = omega arith
+      go false f = sound-refusal call cells f

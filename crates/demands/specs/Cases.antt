@@ -1,0 +1,223 @@
+-- Document 01, "Cases by number": W1 to W12 as scripts of calls on the panel, with what is seen after them. `cases` is the one list.
+-- Assumes nothing.
+use Prim.Native.Nat.{ℕ, _+_}
+use mathlib.Core.Bool.{Bool, true, false, not, _&&_}
+use mathlib.Core.List.{List, [], _∷_, _++_}
+use mathlib.Core.Option.{Option, none, some}
+use lib.ListN.{getD}
+use lib.Dec.{eqb}
+use Rattle.laws.specs.Fills.{tabulate}
+use Rattle.laws.specs.Every.{every}
+use Rattle.tags.specs.Tags.{places}
+use Rattle.blind.specs.declared.Direction.{Direction}
+use Rattle.blind.specs.declared.Motion.{Motion}
+use Rattle.blind.specs.declared.Blind.{Blind}
+use Rattle.blind.specs.Parameters.{defaults}
+use Rattle.blind.specs.Orders.{same}
+use Rattle.panel.specs.Panel.{Seat, Model, bare}
+use Rattle.bus.specs.Reports.{noReport}
+use Rattle.seats.specs.Untouched.{blindAt}
+use Rattle.edits.specs.Parameters.{askedOf}
+use Rattle.demands.specs.Calls.{Call, telegram, timeStep, install, addLink, spliceIn, Result, does}
+use Rattle.demands.specs.Demand3.{motorSeen}
+
+-- ---- scripts
+
+-- A line: a call, and what is looked at in its result.
+pub record Line : Type 0 where
+  pub call : Call
+  pub seen : Result → Bool
+
+-- 64 cells to lend.
+abbrev pub blank : List ℕ
+blank = tabulate places (λ tag. 0)
+
+-- A script is right if all that is looked at is so, each call on the panel that the one before left.
+unfoldable pub right : List Line → Model → Bool
+right [] m = true
+right (line ∷ lines) m = (line .seen) (does (line .call) m blank) && right lines (does (line .call) m blank .panel)
+
+-- A call that is done, with nothing more to look at; and one with a look.
+abbrev pub plain : Call → Line
+plain call = record { call = call; seen = λ r. eqb (r .answer) 0 }
+
+abbrev pub look : Call → (Result → Bool) → Line
+look call seen = record { call = call; seen = λ r. eqb (r .answer) 0 && seen r }
+
+-- A call that is answered a number.
+abbrev pub answers : Call → ℕ → Line
+answers call number = record { call = call; seen = λ r. eqb (r .answer) number }
+
+-- ---- what is looked at, of blind 5
+
+-- off, up and down: its motor command on the strip, at whatever terminal it has
+abbrev pub off : Result → Bool
+off r = eqb (motorSeen 5 (r .panel)) 0
+
+abbrev pub up : Result → Bool
+up r = eqb (motorSeen 5 (r .panel)) 1
+
+abbrev pub down : Result → Bool
+down r = eqb (motorSeen 5 (r .panel)) 2
+
+abbrev pub reports : ℕ → Result → Bool
+reports n r = eqb (getD (r .cells) 5 noReport) n
+
+abbrev pub onBlind : (Blind → Bool) → Option Blind → Bool
+onBlind test none = false
+onBlind test (some b) = test b
+
+abbrev pub restingAt : Motion → Bool
+restingAt (Motion.Off rest) = true
+restingAt (Motion.Waits rest run) = false
+restingAt (Motion.Runs run) = false
+
+-- "at rest", "nothing waits"
+abbrev pub resting : Result → Bool
+resting r = onBlind (λ b. restingAt (b .motion)) (blindAt 5 (r .panel))
+
+abbrev pub upWaitsAt : Motion → Bool
+upWaitsAt (Motion.Off rest) = false
+upWaitsAt (Motion.Waits rest run) = same Direction.Up (run .direction)
+upWaitsAt (Motion.Runs run) = false
+
+-- "an up run waits"
+abbrev pub upWaits : Result → Bool
+upWaits r = onBlind (λ b. upWaitsAt (b .motion)) (blindAt 5 (r .panel))
+
+abbrev pub lengthAt : Motion → ℕ
+lengthAt (Motion.Off rest) = 0
+lengthAt (Motion.Waits rest run) = run .length
+lengthAt (Motion.Runs run) = run .length
+
+-- "full length"
+abbrev pub fullLength : Result → Bool
+fullLength r = onBlind (λ b. eqb (lengthAt (b .motion)) 60000) (blindAt 5 (r .panel))
+
+-- "the flag is set"
+abbrev pub frost : Result → Bool
+frost r = onBlind (λ b. b .flags .frost && (not (b .flags .wind) && not (b .flags .rain))) (blindAt 5 (r .panel))
+
+abbrev pub terminalIn : Option Seat → ℕ
+terminalIn none = 128
+terminalIn (some seat) = seat .terminal
+
+abbrev pub stands : ℕ → ℕ → Result → Bool
+stands tag terminal r = eqb (terminalIn (r .panel .seats tag)) terminal
+
+abbrev pub both : (Result → Bool) → (Result → Bool) → Result → Bool
+both one other r = one r && other r
+
+-- ---- "Blind 5 at terminal 9, defaults, fresh, each kind on its own address": the address of a kind is one above it
+
+abbrev pub link : ℕ → Line
+link kind = plain (addLink (record { address = kind + 1; tag = 5; kind = kind }))
+
+abbrev pub fresh : List Line
+fresh =
+    plain (install 5 9 (askedOf defaults))
+    ∷ link 0 ∷ link 1 ∷ link 2 ∷ link 3 ∷ link 4 ∷ link 5 ∷ link 6 ∷ link 7 ∷ []
+
+abbrev pub WA : ℕ → Call
+WA v = telegram 1 v
+
+abbrev pub FA : ℕ → Call
+FA v = telegram 3 v
+
+abbrev pub FO : ℕ → Call
+FO v = telegram 4 v
+
+abbrev pub MUD : ℕ → Call
+MUD v = telegram 5 v
+
+abbrev pub STOP : ℕ → Call
+STOP v = telegram 6 v
+
+abbrev pub SSUD : ℕ → Call
+SSUD v = telegram 7 v
+
+abbrev pub SAPBP : ℕ → Call
+SAPBP v = telegram 8 v
+
+-- ---- the cases
+
+-- "MUD 0, then 499 ms: off. 1 ms more: up."
+abbrev pub w1 : List Line
+w1 = fresh ++ (plain (MUD 0) ∷ look (timeStep 499) off ∷ look (timeStep 1) up ∷ [])
+
+-- "From W1, 59,999 ms: up. 1 ms more: off, report 256."
+abbrev pub w2 : List Line
+w2 = w1 ++ (look (timeStep 59999) up ∷ look (timeStep 1) (both off (reports 256)) ∷ [])
+
+-- "Then SAPBP 128 at once: off; 500 ms: down; 30,117 ms: off, report 383."
+abbrev pub w3 : List Line
+w3 = w2 ++ (look (SAPBP 128) off ∷ look (timeStep 500) down ∷ look (timeStep 30117) (both off (reports 383)) ∷ [])
+
+-- "Running up, MUD 1: off; 499 ms: off; 1 ms: down."
+abbrev pub w4 : List Line
+w4 = w1 ++ (look (MUD 1) off ∷ look (timeStep 499) off ∷ look (timeStep 1) down ∷ [])
+
+-- "Full run down, SSUD 0: off, nothing waits."
+abbrev pub w5 : List Line
+w5 = fresh ++ (plain (MUD 1) ∷ look (timeStep 500) (both down fullLength) ∷ look (SSUD 0) (both off resting) ∷ [])
+
+-- "Last direction up, rest time 0, SSUD 0: up; 200 ms: off."
+abbrev pub w6 : List Line
+w6 = w1 ++ (look (STOP 0) off ∷ plain (timeStep 500) ∷ look (SSUD 0) up ∷ look (timeStep 200) off ∷ [])
+
+-- "Fresh, SAPBP 100: answer 0, still at rest."
+abbrev pub w7 : List Line
+w7 = fresh ++ (look (SAPBP 100) resting ∷ [])
+
+-- "Fresh, WA 1, MUD 1: an up run waits. WA 0: at rest, report 0."
+abbrev pub w8 : List Line
+w8 = fresh ++ (look (WA 1) upWaits ∷ look (MUD 1) upWaits ∷ look (WA 0) (both resting (reports 0)) ∷ [])
+
+-- "FA 1: the flag is set, nothing else changes."
+abbrev pub w9 : List Line
+w9 = fresh ++ (look (FA 1) (both frost (both off (both resting (reports noReport)))) ∷ [])
+
+-- "Running down under FO 3, WA 1: off, up waits. WA 0 in the same instant: down, full length."
+abbrev pub w10 : List Line
+w10 =
+    fresh
+    ++ (plain (FO 3) ∷ look (timeStep 500) down ∷ plain (timeStep 1000) ∷ look (WA 1) (both off upWaits) ∷ look (WA 0) (both down fullLength) ∷ [])
+
+abbrev pub notBusy : List Line
+notBusy = fresh ++ (plain (install 6 8 (askedOf defaults)) ∷ plain (timeStep 500) ∷ [])
+
+-- "Not busy, splice in 2 at 9: terminal 11; a blind at 8 stays."
+abbrev pub w11 : List Line
+w11 = notBusy ++ (look (spliceIn 9 2) (both (stands 5 11) (stands 6 8)) ∷ [])
+
+-- "Not busy, splice in at 9: n = 118 gives terminal 127; instead, 119 is answered 9 and 120 is answered 1. A fresh blind, still in its
+-- first pause: 119 is answered 3."
+abbrev pub w12 : List Line
+w12 = fresh ++ (answers (spliceIn 9 119) 3 ∷ plain (timeStep 500) ∷ answers (spliceIn 9 119) 9 ∷ answers (spliceIn 9 120) 1 ∷ look (spliceIn 9 118) (stands 5 127) ∷ [])
+
+unfoldable pub cases : List (List Line)
+cases = w1 ∷ w2 ∷ w3 ∷ w4 ∷ w5 ∷ w6 ∷ w7 ∷ w8 ∷ w9 ∷ w10 ∷ w11 ∷ w12 ∷ []
+
+-- The one claim: each script is right on the panel without blinds and links.
+unfoldable pub allRight : Bool
+allRight = every (λ script. right script bare) cases
+
+-- ---- the caretaker's story: the west's and the south's blinds on one address for MUD, each with its own wind alarm; one module of two
+-- terminals goes in before the south's; then the wind alarm for the west, and a MUD down for both
+
+abbrev pub motor : ℕ → ℕ → Result → Bool
+motor tag n r = eqb (motorSeen tag (r .panel)) n
+
+abbrev pub story : List Line
+story =
+    plain (install 1 4 (askedOf defaults))
+    ∷ plain (install 2 8 (askedOf defaults))
+    ∷ plain (addLink (record { address = 100; tag = 1; kind = 0 }))
+    ∷ plain (addLink (record { address = 200; tag = 2; kind = 0 }))
+    ∷ plain (addLink (record { address = 300; tag = 1; kind = 4 }))
+    ∷ plain (addLink (record { address = 300; tag = 2; kind = 4 }))
+    ∷ plain (timeStep 500)
+    ∷ look (spliceIn 6 2) (both (stands 1 4) (stands 2 10))
+    ∷ look (telegram 100 1) (both (motor 1 1) (motor 2 0))
+    ∷ look (telegram 300 1) (both (motor 1 1) (motor 2 2))
+    ∷ []
