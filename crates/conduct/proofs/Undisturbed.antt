@@ -53,7 +53,7 @@ millisecond-flags flags b = go (b .motion)
         (arrived-flags flags (run .goal) (run .direction) (motorOff (moved (run .direction) b)))
         ∙ cond-flags flags (eqb (run .length - 1) 0) _ _
 
-milliseconds-flags : (k : ℕ) (flags : Flags) (b : Blind) → milliseconds k (withFlags flags b) ≡ withFlags flags (milliseconds k b)
+pub milliseconds-flags : (k : ℕ) (flags : Flags) (b : Blind) → milliseconds k (withFlags flags b) ≡ withFlags flags (milliseconds k b)
 unfolding milliseconds
 milliseconds-flags zero flags b = refl
 milliseconds-flags (suc k) flags b = ap millisecond (milliseconds-flags k flags b) ∙ millisecond-flags flags (milliseconds k b)

@@ -7,4 +7,5 @@ pub mod Demand3
 pub mod Afresh
 pub mod Paying
 pub mod Demand2
+pub mod Waiting
 pub mod Cases

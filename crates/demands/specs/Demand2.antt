@@ -1,7 +1,7 @@
 -- Demand 2, the pause: "between opposite motions the motor is off for at least the pause time", said of a whole panel, of the motor
 -- commands on the strip at whatever terminal the blind then has, millisecond by millisecond of the time steps.
 -- Assumes nothing.
-use Prim.Native.Nat.{ℕ, zero, suc, _≤_}
+use Prim.Native.Nat.{ℕ, zero, suc, _+_, _≤_}
 use mathlib.Core.Path.{_≡_}
 use mathlib.Core.Bool.{cond}
 use mathlib.Core.List.{List, [], _∷_, _++_, map}
@@ -10,12 +10,16 @@ use lib.Dec.{eqb}
 use Rattle.blind.specs.declared.Direction.{Direction}
 use Rattle.blind.specs.declared.Blind.{Blind}
 use Rattle.reading.specs.Reports.{command}
-use Rattle.conduct.specs.Courses.{opposite, offs}
+use Rattle.rules.specs.Rules.{heeded}
+use Rattle.rules.specs.Telegrams.{inputOf}
+use Rattle.conduct.specs.Courses.{opposite, offs, Idle}
+use Rattle.links.specs.declared.link.Link.{Link}
+use Rattle.bus.specs.Locality.{reached}
 use Rattle.panel.specs.Panel.{Model}
 use Rattle.bus.specs.TimeSteps.{afterStep}
 use Rattle.seats.specs.Untouched.{blindAt}
 use Rattle.demands.specs.Calls.{Call, telegram, timeStep, strip, install, removeBlind, writeParams, addLink, removeLink, spliceIn, spliceOut, inventory, does}
-use Rattle.demands.specs.Demand3.{motorSeen}
+use Rattle.demands.specs.Demand3.{Spares, motorSeen}
 
 -- What a millisecond finds at its beginning: the motor command of the blind, and the pause time in force.
 pub record Moment : Type 0 where
@@ -84,3 +88,21 @@ Paused list =
     → first .motor ≡ command d
     → last .motor ≡ command (opposite d)
     → first .pause ≤ offs (motorsOf between)
+
+-- ---- "a waiting order that nobody replaces or stops"
+
+-- None of some links disturbs a blind: each is dropped or changes no duty, on the blind as the one before left it.
+abbrev pub Unheeded : ℕ → List Link → Blind → Type 0
+Unheeded value [] b = Unit {0}
+Unheeded value (link ∷ links) b = Idle (inputOf (link .kind) value) b × Unheeded value links (heeded (inputOf (link .kind) value) b)
+
+-- From one panel to another, with nothing that disturbs the blind, and so many milliseconds in the time steps between: edits that
+-- spare the blind, accepted time steps, and telegrams that do not disturb it.
+pub data Quietly (tag : ℕ) : ℕ → Model → Model → Type 0 where
+  still : {m : Model} → Quietly tag 0 m m
+  edited : {k : ℕ} {m n : Model} (call : Call) (cells : List ℕ) → Spares tag call → Quietly tag k (does call m cells .panel) n → Quietly tag k m n
+  waited : {k : ℕ} {m n : Model} (dt : ℕ) (cells : List ℕ) → does (timeStep dt) m cells .answer ≡ 0 → Quietly tag k (does (timeStep dt) m cells .panel) n
+      → Quietly tag (dt + k) m n
+  told : {k : ℕ} {m n : Model} (address value : ℕ) (cells : List ℕ)
+      → ((b : Blind) → blindAt tag m ≡ some b → Unheeded value (reached tag address m) b)
+      → Quietly tag k (does (telegram address value) m cells .panel) n → Quietly tag k m n
