@@ -8,4 +8,5 @@ pub mod Afresh
 pub mod Paying
 pub mod Demand2
 pub mod Waiting
+pub mod Ruling
 pub mod Cases

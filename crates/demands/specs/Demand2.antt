@@ -106,3 +106,10 @@ pub data Quietly (tag : ℕ) : ℕ → Model → Model → Type 0 where
   told : {k : ℕ} {m n : Model} (address value : ℕ) (cells : List ℕ)
       → ((b : Blind) → blindAt tag m ≡ some b → Unheeded value (reached tag address m) b)
       → Quietly tag k (does (telegram address value) m cells .panel) n → Quietly tag k m n
+
+-- ---- "weaker commands are dropped"
+
+-- All of some links are of the kinds 4 to 7.
+abbrev pub Commands : List Link → Type 0
+Commands [] = Unit {0}
+Commands (link ∷ links) = (4 ≤ link .kind) × Commands links

@@ -1,0 +1,63 @@
+-- Demand 2, its first sentences, of every blind of a panel: its duty is the one that rules, and under another duty than Free a telegram
+-- on the kinds 4 to 7 leaves it as it was.
+-- Assumes nothing.
+use Prim.Native.Nat.{ℕ, _≤_}
+use native.Mathlib.Omega.{arith}
+use mathlib.Core.Path.{_≡_, refl, ap, _∙_}
+use mathlib.Core.Bool.{Bool, true, false, cond}
+use mathlib.Core.List.{List, [], _∷_}
+use mathlib.Core.Option.{some}
+use lib.Dec.{eqb}
+use borrow.Author.Tests.{ne-eqb}
+use Rattle.blind.specs.declared.Blind.{Blind}
+use Rattle.rules.specs.declared.Duty.{Duty}
+use Rattle.rules.specs.declared.Input.{Input}
+use Rattle.rules.specs.Rules.{dutyOf, isFree, heeded}
+use Rattle.rules.specs.Telegrams.{commandOf, inputOf}
+use Rattle.conduct.specs.Ruling.{Rules}
+use Rattle.conduct.proofs.Duties.{duty-rules, only-duty, dropped}
+use Rattle.links.specs.declared.link.Link.{Link}
+use Rattle.panel.specs.Panel.{Seat, Model}
+use Rattle.bus.specs.Telegrams.{telegrammed}
+use Rattle.bus.specs.Locality.{reached, heardBy}
+use Rattle.bus.proofs.Outcomes.{telegram-refused}
+use Rattle.bus.proofs.Locality.{telegram-local}
+use Rattle.seats.specs.Untouched.{blindAt}
+use Rattle.demands.specs.Calls.{telegram, does}
+use Rattle.demands.specs.Demand2.{Commands}
+use Rattle.demands.proofs.Bridges
+use Rattle.demands.proofs.Soundness.{Fine}
+use Rattle.demands.proofs.Stepping.{seat-of, leaves-blind}
+
+-- the duty of each blind of a panel is the one that rules, and no other is
+pub ruled : (tag : ℕ) (m : Model) (b : Blind) → blindAt tag m ≡ some b → Rules b (dutyOf b) × ((duty : Duty) → Rules b duty → duty ≡ dutyOf b)
+ruled tag m b here = (duty-rules b, only-duty b)
+
+-- kinds 4 to 7 command
+commands : (kind value : ℕ) → 4 ≤ kind → inputOf kind value ≡ Input.Command (commandOf kind value)
+unfolding inputOf
+commands kind value h =
+    rw (ne-eqb kind 0 (λ e. omega arith), ne-eqb kind 1 (λ e. omega arith), ne-eqb kind 2 (λ e. omega arith), ne-eqb kind 3 (λ e. omega arith))
+
+unmoved : (value : ℕ) (links : List Link) (b : Blind) → isFree (dutyOf b) ≡ false → Commands links → heardBy value links b ≡ b
+unfolding heardBy
+unmoved value [] b e all = refl
+unmoved value (link ∷ links) b e all =
+    ap (heardBy value links) (ap (λ (i : Input). heeded i b) (commands (link .kind) value (all .0)) ∙ dropped (commandOf (link .kind) value) b e)
+    ∙ unmoved value links b e (all .1)
+
+-- under another duty than Free commands are dropped
+pub commands-dropped : (tag : ℕ) (b : Blind) (m : Model) (cells : List ℕ) (address value : ℕ) → Fine m → blindAt tag m ≡ some b
+    → isFree (dutyOf b) ≡ false → Commands (reached tag address m) → blindAt tag (does (telegram address value) m cells .panel) ≡ some b
+commands-dropped tag b m cells address value fine here other all =
+    let (seat, there, is) = seat-of (m .seats tag) b here in
+    let t = telegrammed address value m cells in
+    leaves-blind tag m cells seat there (does (telegram address value) m cells) t (heardBy value (reached tag address m) (seat .blind))
+    (Bridges.telegram-does m cells address value) (telegram-local address value m cells tag seat (fine .sound) there)
+    (telegram-refused address value m cells)
+    ∙ ap (λ (x : Blind). some (cond (eqb (t .answer) 0) (heardBy value (reached tag address m) x) x)) is
+    ∙ ap (λ (x : Blind). some x) (go (eqb (t .answer) 0))
+  where
+    go : (done : Bool) → cond done (heardBy value (reached tag address m) b) b ≡ b
+    go true = unmoved value (reached tag address m) b other all
+    go false = refl
