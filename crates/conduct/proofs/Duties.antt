@@ -3,6 +3,7 @@
 use mathlib.Core.Path.{_≡_, refl, sym, ap, _∙_}
 use mathlib.Core.Bool.{Bool, true, false, cond}
 use mathlib.Core.List.{List, [], _∷_}
+use mathlib.Core.Logic.{inl, inr}
 use lib.Dec.{eqb}
 use Rattle.laws.proofs.Choices.{never-both}
 use Rattle.blind.specs.declared.Reaction.{Reaction}
@@ -10,10 +11,12 @@ use Rattle.blind.specs.declared.Flags.{Flags}
 use Rattle.blind.specs.declared.Blind.{Blind}
 use Rattle.blind.specs.Fields.{withFlags}
 use Rattle.rules.specs.declared.Duty.{Duty}
+use Rattle.rules.specs.declared.Aim.{Aim}
 use Rattle.rules.specs.declared.Command.{Command}
 use Rattle.rules.specs.declared.Input.{Input}
+use Rattle.rules.specs.Inputs.{aimed, followed, sapbp, acted}
 use Rattle.rules.specs.Rules.{alarm, forcedDuty, dutyOf, sameDuty, ruled, flagged, isFree, commanded, heeded}
-use Rattle.conduct.specs.Courses.{flagsAfter, SameDuty, Idle}
+use Rattle.conduct.specs.Courses.{Aimless, flagsAfter, SameDuty, Idle}
 use Rattle.conduct.specs.Ruling.{Alarm, Asks, up, down, stop, Silent, off, ignored, Gives, none, first, next, Rules}
 
 -- ---- the duty is the one that rules, and no other
@@ -74,6 +77,18 @@ only-flags : (flags : Flags) (b : Blind) → sameDuty (dutyOf b) (dutyOf (withFl
 unfolding flagged ruled
 only-flags flags b e = rw e
 
+-- a position that is asked for while it isn't valid changes nothing either
+aimless-keeps : (command : Command) (b : Blind) → Aimless command b → heeded (Input.Command command) b ≡ b
+unfolding heeded commanded acted sapbp followed
+aimless-keeps Command.Stop b e = absurd e
+aimless-keeps (Command.Move d) b e = absurd e
+aimless-keeps (Command.Step d) b e = absurd e
+aimless-keeps (Command.Position v) b e = go (isFree (dutyOf b))
+  where
+    go : (free : Bool) → cond free (followed (aimed v b) b) b ≡ b
+    go true = ap (λ (aim : Aim). followed aim b) e
+    go false = refl
+
 -- both at once: a telegram that does not disturb leaves every field but the flags
 pub idle-keeps : (input : Input) (b : Blind) → Idle input b → heeded input b ≡ withFlags (flagsAfter input b) b
 unfolding heeded
@@ -81,4 +96,5 @@ idle-keeps (Input.Wind on) b e = only-flags _ b e
 idle-keeps (Input.Rain on) b e = only-flags _ b e
 idle-keeps (Input.Frost on) b e = only-flags _ b e
 idle-keeps (Input.Force forced) b e = only-flags _ b e
-idle-keeps (Input.Command command) b e = dropped command b e
+idle-keeps (Input.Command command) b (inl e) = dropped command b e
+idle-keeps (Input.Command command) b (inr e) = aimless-keeps command b e

@@ -90,6 +90,16 @@ module _ {course : List Event} {b : Blind} (rest : ℕ) (run : Run) (waits-now :
       ∙ ap (λ (k : ℕ). milliseconds k (withMotion (Motion.Waits rest run) b) .motion) e
       ∙ ap (λ (x : Blind). x .motion) (wait-over rest run b h)
 
+-- ---- a run goes on until its length is used up
+
+pub still-runs : {course : List Event} {b : Blind} (run : Run) → Sound b → b .motion ≡ Motion.Runs run → Undisturbed course b
+    → duration course < run .length → after course b .motion ≡ Motion.Runs (shorter (duration course) run)
+unfolding movedBy
+still-runs {course} {b} run s runs-now alone h =
+    ap (λ (x : Blind). x .motion) (undisturbed alone)
+    ∙ ap (λ (m : Motion). milliseconds (duration course) (withMotion m b) .motion) runs-now
+    ∙ ap (λ (x : Blind). x .motion) (running (duration course) run b (s .position) h)
+
 -- ---- a run that is on ends
 
 from-start : (run : Run) (b : Blind) → Sound b → Engaged run (b .motion)

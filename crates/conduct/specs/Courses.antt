@@ -2,6 +2,7 @@
 -- Assumes nothing.
 use Prim.Native.Nat.{ℕ, suc, _+_, _≤_}
 use mathlib.Core.Path.{_≡_}
+use mathlib.Core.Logic.{_⊎_}
 use mathlib.Core.Bool.{true, false, cond}
 use mathlib.Core.List.{List, [], _∷_}
 use lib.Dec.{eqb}
@@ -13,8 +14,10 @@ use Rattle.blind.specs.declared.Blind.{Blind}
 use Rattle.blind.specs.Fields.{withFlags}
 use Rattle.blind.specs.Millisecond.{millisecond}
 use Rattle.reading.specs.Reports.{motorOf}
+use Rattle.rules.specs.declared.Aim.{Aim}
 use Rattle.rules.specs.declared.Command.{Command}
 use Rattle.rules.specs.declared.Input.{Input}
+use Rattle.rules.specs.Inputs.{aimed}
 use Rattle.rules.specs.Rules.{dutyOf, sameDuty, isFree, heeded, withWind, withRain, withFrost, withForced}
 
 -- "Byte any": the value of a byte is at most 255.
@@ -77,13 +80,20 @@ flagsAfter (Input.Command command) b = b .flags
 abbrev pub SameDuty : Input → Blind → Type 0
 SameDuty input b = sameDuty (dutyOf b) (dutyOf (withFlags (flagsAfter input b) b)) ≡ true
 
+-- A command that asks for nothing: "SAPBP .. dropped when the position isn't valid".
+abbrev pub Aimless : Command → Blind → Type 0
+Aimless Command.Stop b = ⊥
+Aimless (Command.Move d) b = ⊥
+Aimless (Command.Step d) b = ⊥
+Aimless (Command.Position v) b = aimed v b ≡ Aim.Dropped
+
 -- A telegram that does not disturb: one that is dropped, or that changes no duty.
 abbrev pub Idle : Input → Blind → Type 0
 Idle (Input.Wind on) b = SameDuty (Input.Wind on) b
 Idle (Input.Rain on) b = SameDuty (Input.Rain on) b
 Idle (Input.Frost on) b = SameDuty (Input.Frost on) b
 Idle (Input.Force forced) b = SameDuty (Input.Force forced) b
-Idle (Input.Command command) b = isFree (dutyOf b) ≡ false
+Idle (Input.Command command) b = (isFree (dutyOf b) ≡ false) ⊎ Aimless command b
 
 -- A course in which nothing disturbs the blind.
 pub data Undisturbed : List Event → Blind → Type 0 where

@@ -1,6 +1,6 @@
 -- Every call, done or refused, leaves a sound panel sound, and a sound panel is never answered 12.
 -- Assumes nothing.
-use Prim.Native.Nat.{ℕ}
+use Prim.Native.Nat.{ℕ, _^_, _<_}
 use native.Mathlib.Decide.{ℕ-discrete}
 use mathlib.Core.Path.{_≡_, refl, sym, ap, _∙_, subst}
 use mathlib.Core.Bool.{Bool, true, false, cond, not, _&&_}
@@ -17,10 +17,11 @@ use Rattle.links.specs.declared.link.Link.{Link}
 use Rattle.links.specs.Links.{keyOf, linksTo, holding}
 use Rattle.links.specs.Edits.{inserted, deleted, dropped}
 use Rattle.links.specs.Sound as ofLinks
-use Rattle.panel.specs.Panel.{Model, reseated, eachSeat, relinked}
+use Rattle.panel.specs.declared.Panel.{Panel}
+use Rattle.panel.specs.Panel.{Model, modelOf, reseated, eachSeat, relinked}
 use Rattle.panel.specs.Sound.{Sound, isSound}
 use Rattle.panel.specs.Strip.{terminals}
-use Rattle.panel.proofs.Decides.{sound-tested}
+use Rattle.panel.proofs.Decides.{sound-tested, sound-panel}
 use Rattle.tags.specs.Tags.{places}
 use Rattle.panel.specs.Calls.{unsound, outside, checks, lentChecks, Left}
 use Rattle.bus.proofs.Outcomes.{telegram-keeps-sound, time-step-keeps-sound, strip-keeps-sound, strip-keeps, leaves-has}
@@ -31,6 +32,7 @@ use Rattle.bus.specs.TimeSteps.{longest, stepChecks, afterStep, timeStepped}
 use Rattle.seats.proofs.Leaves.{left-has, kept-whole}
 use Rattle.edits.specs.Parameters.{paramsOf}
 use Rattle.edits.specs.Edits.{installChecks, removeChecks, writeChecks, addChecks, removeLinkChecks, freshSeat, seatRewritten, installed, blindRemoved, paramsWritten, linkAdded, linkRemoved}
+use Rattle.edits.proofs.Soundness.{of-panel as panel-contents}
 use Rattle.edits.proofs.Soundness.{OfPanel, install-sound, write-sound, remove-sound, add-sound, remove-link-sound}
 use Rattle.splices.specs.Splices.{inChecks, outChecks, splicedIn, splicedOut}
 use Rattle.splices.proofs.Soundness.{splice-in-sound, splice-out-sound}
@@ -50,6 +52,11 @@ pub record Fine (m : Model) : Type 0 where
 of-panel : (m : Model) → Fine m → OfPanel m
 unfolding Full
 of-panel m f = record { tagged = f .sound .tags; full = f .full }
+
+-- the contents of every panel that passes the test are fine (a presence word has 64 digits, a table 512 places)
+pub panel-fine : (p : Panel) → p .present .word < 2 ^ 64 → length (p .table .links) ≡ 512 → isSound (modelOf p) ≡ true → Fine (modelOf p)
+unfolding Full
+panel-fine p fits whole e = record { sound = sound-panel p fits e; full = panel-contents p fits whole .full }
 
 -- a table that is made of a list has its count right
 made-full : (ls : List Link) (m : Model) → Full (relinked (holding ls) m)

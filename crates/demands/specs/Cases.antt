@@ -10,6 +10,8 @@ use Rattle.laws.specs.Fills.{tabulate}
 use Rattle.laws.specs.Every.{every}
 use Rattle.tags.specs.Tags.{places}
 use Rattle.blind.specs.declared.Direction.{Direction}
+use Rattle.blind.specs.declared.Forced.{Forced}
+use Rattle.blind.specs.declared.Last.{Last}
 use Rattle.blind.specs.declared.Motion.{Motion}
 use Rattle.blind.specs.declared.Blind.{Blind}
 use Rattle.blind.specs.Parameters.{defaults}
@@ -94,9 +96,30 @@ lengthAt (Motion.Runs run) = run .length
 abbrev pub fullLength : Result → Bool
 fullLength r = onBlind (λ b. eqb (lengthAt (b .motion)) 60000) (blindAt 5 (r .panel))
 
--- "the flag is set"
+abbrev pub eitherLast : Last → Bool
+eitherLast Last.Either = true
+eitherLast Last.Up = false
+eitherLast Last.Down = false
+
+abbrev pub notForced : Forced → Bool
+notForced Forced.No = true
+notForced Forced.Up = false
+notForced Forced.Down = false
+
+abbrev pub restIs : ℕ → Motion → Bool
+restIs n (Motion.Off rest) = eqb rest n
+restIs n (Motion.Waits rest run) = false
+restIs n (Motion.Runs run) = false
+
+-- "the flag is set, nothing else changes": the frost flag, and every other field as a fresh blind has it
+abbrev pub frostAlone : Blind → Bool
+frostAlone b =
+    b .flags .frost
+    && (not (b .flags .wind) && (not (b .flags .rain) && notForced (b .flags .forced)))
+    && (eqb (b .position) 0 && (not (b .valid) && (eitherLast (b .last) && restIs 500 (b .motion))))
+
 abbrev pub frost : Result → Bool
-frost r = onBlind (λ b. b .flags .frost && (not (b .flags .wind) && not (b .flags .rain))) (blindAt 5 (r .panel))
+frost r = onBlind frostAlone (blindAt 5 (r .panel))
 
 abbrev pub terminalIn : Option Seat → ℕ
 terminalIn none = 128
@@ -175,7 +198,7 @@ w8 = fresh ++ (look (WA 1) upWaits ∷ look (MUD 1) upWaits ∷ look (WA 0) (bot
 
 -- "FA 1: the flag is set, nothing else changes."
 abbrev pub w9 : List Line
-w9 = fresh ++ (look (FA 1) (both frost (both off (both resting (reports noReport)))) ∷ [])
+w9 = fresh ++ (look (FA 1) (both frost (both off (reports noReport))) ∷ [])
 
 -- "Running down under FO 3, WA 1: off, up waits. WA 0 in the same instant: down, full length."
 abbrev pub w10 : List Line
