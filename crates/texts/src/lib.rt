@@ -1,0 +1,3 @@
+// Rows of bytes: a text put on a lent sheet, and the words of a line. Nothing here knows of numbers, blinds or panels.
+pub mod sheets;
+pub mod words;
