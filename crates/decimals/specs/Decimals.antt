@@ -1,0 +1,47 @@
+-- Numbers as text: "numbers are decimal, up to 64 bits".
+-- Assumes nothing.
+use Prim.Native.Nat.{ℕ, zero, suc, _+_, _-_, _*_, _/_, _%_}
+use mathlib.Core.Bool.{Bool, true, false, cond, not, _&&_}
+use mathlib.Core.List.{List, [], _∷_, _++_}
+use lib.Dec.{ltb, leb}
+use Rattle.laws.specs.Every.{every}
+use Rattle.decimals.specs.declared.Number.{Number}
+
+-- The signs 0 to 9 are the bytes 48 to 57.
+abbrev pub sign : ℕ → ℕ
+sign digit = 48 + digit
+
+-- The digits of n, the highest first, without leading zeros. No number has more digits than its value and one.
+unfoldable pub digits : ℕ → ℕ → List ℕ
+digits zero n = []
+digits (suc most) n = cond (ltb n 10) (sign n ∷ []) (digits most (n / 10) ++ sign (n % 10) ∷ [])
+
+unfoldable pub decimal : ℕ → List ℕ
+decimal n = digits (suc n) n
+
+-- "One or more of the digits 0 to 9 and nothing else": the digits, and the value that they have.
+abbrev pub isDigit : ℕ → Bool
+isDigit byte = leb 48 byte && leb byte 57
+
+unfoldable pub valueBehind : ℕ → List ℕ → ℕ
+valueBehind value [] = value
+valueBehind value (byte ∷ bytes) = valueBehind (value * 10 + (byte - 48)) bytes
+
+abbrev pub valueOf : List ℕ → ℕ
+valueOf = valueBehind 0
+
+-- The largest number of 64 bits.
+abbrev pub largest : ℕ
+largest = 18446744073709551615
+
+abbrev pub isEmpty : List ℕ → Bool
+isEmpty [] = true
+isEmpty (byte ∷ bytes) = false
+
+-- "With a value of at most 18446744073709551615 (64 bits). Leading zeros are allowed and carry nothing."
+unfoldable pub isNumber : List ℕ → Bool
+isNumber word = not (isEmpty word) && (every isDigit word && leb (valueOf word) largest)
+
+-- What a word says, read as a number.
+unfoldable pub numberOf : List ℕ → Number
+numberOf word = cond (isNumber word) (Number.Of (valueOf word)) Number.Nothing
