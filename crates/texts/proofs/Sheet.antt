@@ -11,7 +11,7 @@ use lib.Seq.{drop-cons, sets, sets-eq}
 use lib.Dec.{ltb}
 use borrow.Author.Tests.{lt-ltb}
 use Rattle.laws.proofs.Choices.{cond-has}
-use Rattle.texts.specs.Sheet.{Sheet, sheet, put, puts, each}
+use Rattle.texts.specs.Sheet.{Sheet, sheet, put, puts, each, joined}
 
 -- one text after the other
 pub puts-append : (xs ys : List ℕ) (s : Sheet) → puts (xs ++ ys) s ≡ puts ys (puts xs s)
@@ -63,6 +63,21 @@ each-none of s = refl
 pub each-more : (of : ℕ → List ℕ) (n : ℕ) (s : Sheet) → puts (each of (n + 1)) s ≡ puts (of n) (puts (each of n) s)
 unfolding each
 each-more of n s = ap (λ (k : ℕ). puts (each of k) s) (add-one n) ∙ puts-append (each of n) (of n) s
+
+-- ---- pieces one after the other
+
+-- each piece is put on what the one before left
+abbrev pub pieceByPiece : List (List ℕ) → Sheet → Sheet
+pieceByPiece [] s = s
+pieceByPiece (piece ∷ pieces) s = pieceByPiece pieces (puts piece s)
+
+by-pieces : (pieces : List (List ℕ)) (s : Sheet) → pieceByPiece pieces s ≡ puts (joined pieces) s
+unfolding puts joined
+by-pieces [] s = refl
+by-pieces (piece ∷ pieces) s = by-pieces pieces (puts piece s) ∙ sym (puts-append piece (joined pieces) s)
+
+pub put-joined : (pieces : List (List ℕ)) (s : Sheet) {t : Sheet} → t ≡ pieceByPiece pieces s → t ≡ puts (joined pieces) s
+put-joined pieces s e = e ∙ by-pieces pieces s
 
 -- ---- a text that fits stands on the sheet as it is
 

@@ -26,3 +26,8 @@ puts (byte ∷ bytes) s = puts bytes (put byte s)
 unfoldable pub each : (ℕ → List ℕ) → ℕ → List ℕ
 each of zero = []
 each of (suc n) = each of n ++ of n
+
+-- Texts one after the other.
+unfoldable pub joined : List (List ℕ) → List ℕ
+joined [] = []
+joined (piece ∷ pieces) = piece ++ joined pieces

@@ -1,0 +1,29 @@
+-- Arguments as they are collected word by word: their number up to one more than any command takes, whether all are numbers,
+-- and the first eight values. proofs/Collecting shows that this tells all that `saidBy` asks.
+-- Assumes nothing.
+use Prim.Native.Nat.{ℕ, _+_, min}
+use mathlib.Core.Bool.{true, false}
+use mathlib.Core.List.{List, [], _∷_}
+use lib.ListN.{getD, set, replicate}
+use Rattle.decimals.specs.declared.Number.{Number}
+use Rattle.decimals.specs.Decimals.{numberOf}
+use Rattle.commands.specs.declared.arguments.Arguments.{Arguments}
+
+unfoldable pub nothing : Arguments
+nothing = record { count = 0; numeric = true; values = replicate 8 0 }
+
+-- One more, up to nine.
+abbrev pub oneMore : ℕ → ℕ
+oneMore count = min (count + 1) 9
+
+unfoldable pub with : Arguments → Number → Arguments
+with a Number.Nothing = record { count = oneMore (a .count); numeric = false; values = a .values }
+with a (Number.Of value) = record { count = oneMore (a .count); numeric = a .numeric; values = set (a .values) (a .count) value }
+
+unfoldable pub heard : Arguments → List (List ℕ) → Arguments
+heard a [] = a
+heard a (word ∷ words) = heard (with a (numberOf word)) words
+
+-- The value at a place.
+abbrev pub valueAt : Arguments → ℕ → ℕ
+valueAt a place = getD (a .values) place 0
