@@ -14,7 +14,7 @@ sign digit = 48 + digit
 -- The digits of n, the highest first, without leading zeros. No number has more digits than its value and one.
 unfoldable pub digits : ℕ → ℕ → List ℕ
 digits zero n = []
-digits (suc most) n = cond (ltb n 10) (sign n ∷ []) (digits most (n / 10) ++ sign (n % 10) ∷ [])
+digits (suc most) n = let more = digits most (n / 10) ++ sign (n % 10) ∷ [] in cond (ltb n 10) (sign n ∷ []) more
 
 unfoldable pub decimal : ℕ → List ℕ
 decimal n = digits (suc n) n
@@ -37,6 +37,11 @@ largest = 18446744073709551615
 abbrev pub isEmpty : List ℕ → Bool
 isEmpty [] = true
 isEmpty (byte ∷ bytes) = false
+
+-- The number that the digits of a row make behind a value, as long as it has 64 bits.
+unfoldable pub numberBehind : ℕ → List ℕ → Number
+numberBehind value bytes =
+    cond (every isDigit bytes && leb (valueBehind value bytes) largest) (Number.Of (valueBehind value bytes)) Number.Nothing
 
 -- "With a value of at most 18446744073709551615 (64 bits). Leading zeros are allowed and carry nothing."
 unfoldable pub isNumber : List ℕ → Bool
