@@ -14,7 +14,13 @@ pub(crate) const NO_REPORT: u16 = 512;
 pub(crate) const OFF: u8 = 0;
 
 // The answer of a telegram or a time step.
-pub(crate) fn put_with_reports(out: &mut [u8], at: usize, number: u8, count: u64, cells: &[u16]) -> usize
+pub(crate) fn put_with_reports(
+    out: &mut [u8],
+    at: usize,
+    number: u8,
+    count: u64,
+    cells: &[u16],
+) -> usize
     ensures { λ r. ⌜ sheet (now (out .exit)) r ≡ puts (countedWith noReport number count (now (cells .entry))) (sheet (now (out .entry)) at) ⌝ }
 {
     let next = put_counted(out, at, number, count);
@@ -45,7 +51,13 @@ fn put_report(out: &mut [u8], at: usize, tag: usize, cell: u16) -> usize
 }
 
 // The answer of a strip reading.
-pub(crate) fn put_with_motors(out: &mut [u8], at: usize, number: u8, count: u64, cells: &[u8]) -> usize
+pub(crate) fn put_with_motors(
+    out: &mut [u8],
+    at: usize,
+    number: u8,
+    count: u64,
+    cells: &[u8],
+) -> usize
     ensures { λ r. ⌜ sheet (now (out .exit)) r ≡ puts (countedWith 0 number count (now (cells .entry))) (sheet (now (out .entry)) at) ⌝ }
 {
     let next = put_counted(out, at, number, count);
