@@ -1,15 +1,7 @@
 // The bench: each line is carried out on a panel, and its answer is written on a lent sheet. A line that is wrong changes
 // nothing and is answered all the same.
-pub mod calls;
+mod blinds;
 mod cells;
-pub mod lines;
+mod motions;
 mod numbers;
-pub mod shows;
-
-use panel::Panel;
-
-// The panel as a line leaves it, and how far the sheet is written.
-pub struct Told {
-    pub panel: Panel,
-    pub at: usize,
-}
+mod shows;

@@ -4,7 +4,7 @@ use Prim.Native.Nat.{ℕ, zero, suc, _+_, _≤_, _<_}
 use native.Mathlib.Numerals.{add-one}
 use native.Mathlib.Omega.{arith}
 use mathlib.Core.Path.{_≡_, refl, sym, ap, subst, _∙_}
-use mathlib.Core.Bool.{true, cond}
+use mathlib.Core.Bool.{Bool, true, false, cond}
 use mathlib.Core.List.{List, [], _∷_, _++_, append-assoc}
 use lib.ListN.{length, getD, take, drop, set, length-set, drop-of-length-le}
 use lib.Seq.{drop-cons, sets, sets-eq}
@@ -63,6 +63,27 @@ each-none of s = refl
 pub each-more : (of : ℕ → List ℕ) (n : ℕ) (s : Sheet) → puts (each of (n + 1)) s ≡ puts (of n) (puts (each of n) s)
 unfolding each
 each-more of n s = ap (λ (k : ℕ). puts (each of k) s) (add-one n) ∙ puts-append (each of n) (of n) s
+
+-- one place more
+pub each-turn : (of : ℕ → List ℕ) (n : ℕ) (s : Sheet) {t u : Sheet} → t ≡ puts (each of n) s → u ≡ puts (of n) t → u ≡ puts (each of (n + 1)) s
+each-turn of n s before more = more ∙ ap (puts (of n)) before ∙ sym (each-more of n s)
+
+-- all places
+pub each-all : (of : ℕ → List ℕ) (n all : ℕ) (s : Sheet) {t : Sheet} → n ≡ all → t ≡ puts (each of n) s → t ≡ puts (each of all) s
+each-all of n all s e w = w ∙ ap (λ (k : ℕ). puts (each of k) s) e
+
+-- ---- one of two texts
+
+pub put-first : (xs ys : List ℕ) (s : Sheet) {t : Bool} {u : Sheet} → t ≡ true → u ≡ puts xs s → u ≡ puts (cond t xs ys) s
+put-first xs ys s e w = w ∙ ap (λ (b : Bool). puts (cond b xs ys) s) (sym e)
+
+pub put-second : (xs ys : List ℕ) (s : Sheet) {t : Bool} {u : Sheet} → t ≡ false → u ≡ puts ys s → u ≡ puts (cond t xs ys) s
+put-second xs ys s e w = w ∙ ap (λ (b : Bool). puts (cond b xs ys) s) (sym e)
+
+-- nothing is put
+pub put-nothing : (s : Sheet) → s ≡ puts [] s
+unfolding puts
+put-nothing s = refl
 
 -- ---- pieces one after the other
 
