@@ -1,6 +1,6 @@
 -- A word is read byte by byte: a byte that is no digit and a value past 64 bits both stay refused, since a value never falls.
 -- Assumes nothing.
-use Prim.Native.Nat.{ℕ, zero, suc, _+_, _-_, _*_, _≤_, _<_}
+use Prim.Native.Nat.{ℕ, suc, _+_, _-_, _*_, _≤_, _<_}
 use native.Mathlib.Numerals.{add-one}
 use native.Mathlib.Omega.{arith}
 use mathlib.Core.Path.{_≡_, refl, sym, ap, _∙_}
@@ -12,7 +12,7 @@ use lib.Dec.{leb}
 use borrow.Author.Tests.{lt-leb, le-leb, leb-false, leb-true}
 use Rattle.laws.specs.Every.{every}
 use Rattle.decimals.specs.declared.Number.{Number}
-use Rattle.decimals.specs.Decimals.{isDigit, valueBehind, largest, isNumber, numberBehind, numberOf}
+use Rattle.decimals.specs.Decimals.{sign, isDigit, valueBehind, largest, isNumber, numberBehind, numberOf}
 
 -- a value never falls
 pub grows : (value : ℕ) (bytes : List ℕ) → value ≤ valueBehind value bytes
@@ -20,7 +20,28 @@ unfolding valueBehind
 grows value [] = omega arith
 grows value (byte ∷ bytes) = let more = grows (value * 10 + (byte - 48)) bytes in omega arith
 
--- ---- one byte, and what comes behind it
+-- ---- one byte
+
+module _ (value byte : ℕ) where
+  -- no digit, past 64 bits, or read
+  pub below-digits : byte < sign 0 → Number.Nothing ≡ numberBehind value (byte ∷ [])
+  unfolding numberBehind every valueBehind
+  below-digits h = simp (lt-leb (sign 0) byte h)
+
+  pub above-digits : sign 9 < byte → Number.Nothing ≡ numberBehind value (byte ∷ [])
+  unfolding numberBehind every valueBehind
+  above-digits h = simp (le-leb (sign 0) byte (omega arith), lt-leb byte (sign 9) h)
+
+  module _ (low : sign 0 ≤ byte) (high : byte ≤ sign 9) where
+    pub too-large : largest < value * 10 + (byte - 48) → Number.Nothing ≡ numberBehind value (byte ∷ [])
+    unfolding numberBehind every valueBehind
+    too-large h = simp (le-leb (sign 0) byte low, le-leb byte (sign 9) high, lt-leb _ _ h)
+
+    pub still-fits : value * 10 + (byte - 48) ≤ largest → Number.Of (value * 10 + (byte - 48)) ≡ numberBehind value (byte ∷ [])
+    unfolding numberBehind every valueBehind
+    still-fits h = simp (le-leb (sign 0) byte low, le-leb byte (sign 9) high, le-leb _ _ h)
+
+-- ---- what comes behind it
 
 module _ (value byte : ℕ) (bytes : List ℕ) where
   -- what is refused stays refused
@@ -93,7 +114,7 @@ unfolding numberOf isNumber
 no-word [] e = refl
 no-word (byte ∷ bytes) e = absurd (omega (arith, e))
 
-pub a-word : (word : List ℕ) → (length word ≡ 0 → ⊥) → numberBehind 0 word ≡ numberOf word
+pub a-word : (word : List ℕ) → 0 < length word → numberBehind 0 word ≡ numberOf word
 unfolding numberOf isNumber numberBehind
-a-word [] h = absurd (h refl)
+a-word [] h = absurd (omega arith)
 a-word (byte ∷ bytes) h = refl

@@ -12,6 +12,7 @@ abbrev pub sign : ℕ → ℕ
 sign digit = 48 + digit
 
 -- The digits of n, the highest first, without leading zeros. No number has more digits than its value and one.
+-- The longer case stands in a let, which is computed only where it is asked for: so the text of every number computes.
 unfoldable pub digits : ℕ → ℕ → List ℕ
 digits zero n = []
 digits (suc most) n = let more = digits most (n / 10) ++ sign (n % 10) ∷ [] in cond (ltb n 10) (sign n ∷ []) more

@@ -18,10 +18,10 @@ abbrev μ-loop : tie.MeasureT-loop
 μ-loop word value₀ i₀ i-end value i = i-end - i
 
 returns : tie.Need-returns Inv-loop μ-loop
-returns c = no-word (c .before .before .args .word .now) (c .if1 .taken)
+returns c = no-word (c .before .before .args .word .now) (omega arith)
 
 loop-holds : tie.Need-loop-holds Inv-loop μ-loop
-loop-holds c = (refl, omega arith, a-word (c .before .before .args .word .now) (c .if1 .left))
+loop-holds c = (refl, omega arith, a-word (c .before .before .args .word .now) (omega arith))
 
 returns-2 : tie.Need-returns-2 Inv-loop μ-loop
 returns-2 c =
