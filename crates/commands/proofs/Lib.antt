@@ -1,0 +1,4 @@
+pub mod Naming
+pub mod Endings
+pub mod Walking
+pub mod Collecting
