@@ -1,0 +1,162 @@
+-- What is collected of the arguments word by word tells all that the language asks of them: up to nine they are counted,
+-- up to eight they are kept, and no command takes more than eight.
+-- Assumes nothing.
+use Prim.Native.Nat.{ℕ, zero, suc, _+_, _-_, min, _≤_, _<_}
+use native.Mathlib.Numerals.{add-one}
+use native.Mathlib.Omega.{arith}
+use mathlib.Core.Path.{_≡_, refl, sym, ap, ap₂, _∙_, fun-ext}
+use mathlib.Core.Bool.{Bool, true, false, cond, not, _&&_, and-assoc, true≢false}
+use mathlib.Core.List.{List, [], _∷_, _++_, map}
+use lib.ListN.{length, getD, take, drop, set, replicate, length-map, drop-of-length-le}
+use lib.Seq.{sets, sets-eq, getD-drop}
+use lib.Dec.{eqb, ltb}
+use Rattle.laws.specs.Every.{every}
+use Rattle.texts.specs.Words.{words, blanks, letters}
+use Rattle.laws.proofs.Choices.{both-left, both-right}
+use Rattle.decimals.specs.declared.Number.{Number}
+use Rattle.decimals.specs.Decimals.{isNumber, valueOf, numberOf}
+use Rattle.commands.specs.declared.Fault.{Fault}
+use Rattle.commands.specs.declared.Said.{Said}
+use Rattle.commands.specs.declared.names.Name.{Name}
+use Rattle.commands.specs.declared.arguments.Arguments.{Arguments}
+use Rattle.commands.specs.Names.{isKnown, takes}
+use Rattle.commands.specs.Arguments.{nothing, oneMore, with, heard, valueAt}
+use Rattle.commands.specs.Lines.{called, judged}
+use Rattle.commands.proofs.Naming.{takes-few, takes-nine}
+use Rattle.commands.proofs.Walking.{part, same-words, one-word}
+
+-- ---- how many there are
+
+one-more : (a : Arguments) (word : Number) → with a word .count ≡ oneMore (a .count)
+unfolding with
+one-more a Number.Nothing = refl
+one-more a (Number.Of value) = refl
+
+counted : (a : Arguments) (words : List (List ℕ)) → a .count ≤ 9 → heard a words .count ≡ min (a .count + length words) 9
+unfolding heard
+counted a [] h = omega arith
+counted a (word ∷ words) h =
+    let next = with a (numberOf word) in
+    let more : next .count ≡ min (a .count + 1) 9 = one-more a (numberOf word) in
+    let rest : heard next words .count ≡ min (next .count + length words) 9 = counted next words (omega arith) in
+    rest ∙ ap (λ (k : ℕ). min (k + length words) 9) more ∙ capped (a .count) (length words)
+  where
+    capped : (c l : ℕ) → min (min (c + 1) 9 + l) 9 ≡ min (c + suc l) 9
+    capped c l = omega arith
+
+-- ---- whether all are numbers
+
+with-number : (a : Arguments) (word : List ℕ) → with a (numberOf word) .numeric ≡ a .numeric && isNumber word
+unfolding with numberOf
+with-number a word = go (isNumber word) (a .numeric)
+  where
+    go : (t numeric : Bool) → with (record { count = a .count; numeric = numeric; values = a .values }) (cond t (Number.Of (valueOf word)) Number.Nothing) .numeric ≡ numeric && t
+    go true true = refl
+    go true false = refl
+    go false true = refl
+    go false false = refl
+
+all-numbers : (a : Arguments) (words : List (List ℕ)) → heard a words .numeric ≡ a .numeric && every isNumber words
+unfolding heard every
+all-numbers a [] = go (a .numeric)
+  where
+    go : (t : Bool) → t ≡ t && true
+    go true = refl
+    go false = refl
+all-numbers a (word ∷ words) =
+    all-numbers (with a (numberOf word)) words
+    ∙ ap (λ (t : Bool). t && every isNumber words) (with-number a word)
+    ∙ and-assoc (a .numeric) (isNumber word) (every isNumber words)
+
+-- ---- what they are
+
+with-value : (a : Arguments) (word : List ℕ) → isNumber word ≡ true → a .count ≤ 8
+    → (with a (numberOf word) .count ≡ suc (a .count)) × (with a (numberOf word) .values ≡ set (a .values) (a .count) (valueOf word))
+unfolding with numberOf
+with-value a word e h = go (isNumber word) e
+  where
+    go : (t : Bool) → t ≡ true
+        → (with a (cond t (Number.Of (valueOf word)) Number.Nothing) .count ≡ suc (a .count))
+        × (with a (cond t (Number.Of (valueOf word)) Number.Nothing) .values ≡ set (a .values) (a .count) (valueOf word))
+    go true e = (omega arith, refl)
+    go false e = absurd (true≢false (sym e))
+
+kept : (a : Arguments) (words : List (List ℕ)) → a .count + length words ≤ 8 → every isNumber words ≡ true
+    → heard a words .values ≡ sets (a .values) (a .count) (map valueOf words)
+unfolding heard every
+kept a [] h e = refl
+kept a (word ∷ words) h e =
+    let next = with a (numberOf word) in
+    let one = with-value a word (both-left (isNumber word) (every isNumber words) e) (omega arith) in
+    kept next words (omega (arith, one .0)) (both-right (isNumber word) (every isNumber words) e)
+    ∙ ap₂ (λ (values : List ℕ) (count : ℕ). sets values count (map valueOf words)) (one .1) (one .0)
+
+-- zeros behind a list are not seen
+zeros : (n place : ℕ) → _≡_ {A = ℕ} (getD (replicate n 0) place 0) 0
+zeros zero place = refl
+zeros (suc n) zero = refl
+zeros (suc n) (suc place) = zeros n place
+
+zeros-behind : (values more : List ℕ) → ((place : ℕ) → getD more place 0 ≡ 0) → (place : ℕ) → getD (values ++ more) place 0 ≡ getD values place 0
+zeros-behind [] more h place = h place
+zeros-behind (value ∷ values) more h zero = refl
+zeros-behind (value ∷ values) more h (suc place) = zeros-behind values more h place
+
+by-place : (words : List (List ℕ)) → length words ≤ 8 → every isNumber words ≡ true
+    → valueAt (heard nothing words) ≡ (λ place. getD (map valueOf words) place 0)
+unfolding nothing
+by-place words h e = fun-ext (λ place.
+    ap (λ (l : List ℕ). getD l place 0) (kept nothing words (omega arith) e ∙ sets-eq values (replicate 8 0) 0 (omega (arith, length-map words valueOf)))
+    ∙ zeros-behind values (drop (0 + length values) (replicate 8 0)) (λ k. getD-drop (0 + length values) (replicate 8 0) k 0 ∙ zeros 8 (0 + length values + k)) place)
+  where
+    values : List ℕ
+    values = map valueOf words
+
+-- ---- so they are judged alike
+
+judged-alike : (name : Name) (count : ℕ) (numeric : Bool) (f g : ℕ → ℕ) → (count ≤ 8 → numeric ≡ true → f ≡ g)
+    → judged name (min count 9) numeric f ≡ judged name count numeric g
+unfolding judged
+judged-alike name count numeric f g same =
+    ap (λ (t : Bool). choose (isKnown name) t numeric (called name (min count 9) f)) (takes-nine name count)
+    ∙ go (isKnown name) (takes name count) numeric (takes-few name count) same
+  where
+    choose : Bool → Bool → Bool → Said → Said
+    choose known taken all call =
+        cond (not known) (Said.Wrong Fault.UnknownCommand) (cond (not taken) (Said.Wrong Fault.WrongCount) (cond (not all) (Said.Wrong Fault.NotANumber) call))
+
+    go : (known taken all : Bool) → (taken ≡ true → count ≤ 8) → (count ≤ 8 → all ≡ true → f ≡ g)
+        → choose known taken all (called name (min count 9) f) ≡ choose known taken all (called name count g)
+    go false taken all few same = refl
+    go true false all few same = refl
+    go true true false few same = refl
+    go true true true few same =
+        let small : count ≤ 8 = few refl in
+        ap₂ (called name) (omega arith) (same small refl)
+
+pub collected : (name : Name) (words : List (List ℕ))
+    → judged name (heard nothing words .count) (heard nothing words .numeric) (valueAt (heard nothing words))
+    ≡ judged name (length words) (every isNumber words) (λ place. getD (map valueOf words) place 0)
+unfolding nothing
+collected name words =
+    ap₂ (λ (count : ℕ) (numeric : Bool). judged name count numeric (valueAt (heard nothing words)))
+    (counted nothing words (omega arith) ∙ ap (λ (k : ℕ). min k 9) (omega arith)) (all-numbers nothing words)
+    ∙ judged-alike name (length words) (every isNumber words) (valueAt (heard nothing words)) (λ place. getD (map valueOf words) place 0) (by-place words)
+
+-- ---- the words of a line one after the other
+
+module _ (line : List ℕ) (from at : ℕ) {a : Arguments} where
+  pub heard-start : a ≡ nothing → at ≡ from + blanks (drop from line) → heard a (words (drop at line)) ≡ heard nothing (words (drop from line))
+  heard-start none e = ap₂ heard none (same-words line from at e)
+
+module _ (line : List ℕ) (at end next : ℕ) (a : Arguments) {b whole : Arguments} {word : Number} where
+  pub heard-more : at < length line → blanks (drop at line) ≡ 0 → end ≡ at + letters (drop at line)
+      → word ≡ numberOf (part at end line) → b ≡ with a word → next ≡ end + blanks (drop end line)
+      → heard a (words (drop at line)) ≡ whole → heard b (words (drop next line)) ≡ whole
+  unfolding heard
+  heard-more h begins ends read one past e =
+      ap₂ heard (one ∙ ap (with a) read) (same-words line end next past) ∙ sym (ap (heard a) (one-word line at end h begins ends)) ∙ e
+
+pub heard-end : (line : List ℕ) (at : ℕ) {a whole : Arguments} → length line ≤ at → heard a (words (drop at line)) ≡ whole → a ≡ whole
+unfolding heard words
+heard-end line at {a} h e = sym (ap (λ (l : List ℕ). heard a (words l)) (drop-of-length-le line h)) ∙ e

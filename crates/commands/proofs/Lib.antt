@@ -1,0 +1,5 @@
+pub mod Naming
+pub mod Endings
+pub mod Walking
+pub mod Collecting
+pub mod Saying
