@@ -41,7 +41,11 @@ pub(crate) fn carry_out(panel: Panel, command: Command, out: &mut [u8], at: usiz
         Command::Remove(tag) => tell(remove_blind(panel, tag), out, at),
         Command::Params(tag, set) => tell(write_params(panel, tag, set), out, at),
         Command::Link(address, tag, kind) => tell(add_link(panel, address, tag, kind), out, at),
-        Command::Unlink(address, tag, kind) => tell(remove_link(panel, address, tag, kind), out, at),
+        Command::Unlink(address, tag, kind) => tell(
+            remove_link(panel, address, tag, kind),
+            out,
+            at,
+        ),
         Command::In(t, n) => tell(splice_in(panel, t, n), out, at),
         Command::Out(t, n) => tell(splice_out(panel, t, n), out, at),
         Command::Tel(address, value) => send(panel, address, value, out, at),
