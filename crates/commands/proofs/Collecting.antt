@@ -1,15 +1,13 @@
 -- What is collected of the arguments word by word tells all that the language asks of them: up to nine they are counted,
 -- up to eight they are kept, and no command takes more than eight.
 -- Assumes nothing.
-use Prim.Native.Nat.{ℕ, zero, suc, _+_, _-_, min, _≤_, _<_}
-use native.Mathlib.Numerals.{add-one}
+use Prim.Native.Nat.{ℕ, zero, suc, _+_, min, _≤_, _<_}
 use native.Mathlib.Omega.{arith}
 use mathlib.Core.Path.{_≡_, refl, sym, ap, ap₂, _∙_, fun-ext}
-use mathlib.Core.Bool.{Bool, true, false, cond, not, _&&_, and-assoc, true≢false}
+use mathlib.Core.Bool.{Bool, true, false, cond, not, _&&_, and-true, and-false, and-assoc, true≢false}
 use mathlib.Core.List.{List, [], _∷_, _++_, map}
-use lib.ListN.{length, getD, take, drop, set, replicate, length-map, drop-of-length-le}
+use lib.ListN.{length, getD, drop, set, replicate, length-map, drop-of-length-le}
 use lib.Seq.{sets, sets-eq, getD-drop}
-use lib.Dec.{eqb, ltb}
 use Rattle.laws.specs.Every.{every}
 use Rattle.texts.specs.Words.{words, blanks, letters}
 use Rattle.laws.proofs.Choices.{both-left, both-right}
@@ -48,21 +46,15 @@ counted a (word ∷ words) h =
 
 with-number : (a : Arguments) (word : List ℕ) → with a (numberOf word) .numeric ≡ a .numeric && isNumber word
 unfolding with numberOf
-with-number a word = go (isNumber word) (a .numeric)
+with-number a word = go (isNumber word)
   where
-    go : (t numeric : Bool) → with (record { count = a .count; numeric = numeric; values = a .values }) (cond t (Number.Of (valueOf word)) Number.Nothing) .numeric ≡ numeric && t
-    go true true = refl
-    go true false = refl
-    go false true = refl
-    go false false = refl
+    go : (t : Bool) → with a (cond t (Number.Of (valueOf word)) Number.Nothing) .numeric ≡ a .numeric && t
+    go true = sym (and-true (a .numeric))
+    go false = sym (and-false (a .numeric))
 
 all-numbers : (a : Arguments) (words : List (List ℕ)) → heard a words .numeric ≡ a .numeric && every isNumber words
 unfolding heard every
-all-numbers a [] = go (a .numeric)
-  where
-    go : (t : Bool) → t ≡ t && true
-    go true = refl
-    go false = refl
+all-numbers a [] = sym (and-true (a .numeric))
 all-numbers a (word ∷ words) =
     all-numbers (with a (numberOf word)) words
     ∙ ap (λ (t : Bool). t && every isNumber words) (with-number a word)
@@ -97,7 +89,8 @@ zeros zero place = refl
 zeros (suc n) zero = refl
 zeros (suc n) (suc place) = zeros n place
 
-zeros-behind : (values more : List ℕ) → ((place : ℕ) → getD more place 0 ≡ 0) → (place : ℕ) → getD (values ++ more) place 0 ≡ getD values place 0
+zeros-behind : (values more : List ℕ) → ((place : ℕ) → getD more place 0 ≡ 0)
+    → (place : ℕ) → getD (values ++ more) place 0 ≡ getD values place 0
 zeros-behind [] more h place = h place
 zeros-behind (value ∷ values) more h zero = refl
 zeros-behind (value ∷ values) more h (suc place) = zeros-behind values more h place
@@ -106,11 +99,17 @@ by-place : (words : List (List ℕ)) → length words ≤ 8 → every isNumber w
     → valueAt (heard nothing words) ≡ (λ place. getD (map valueOf words) place 0)
 unfolding nothing
 by-place words h e = fun-ext (λ place.
-    ap (λ (l : List ℕ). getD l place 0) (kept nothing words (omega arith) e ∙ sets-eq values (replicate 8 0) 0 (omega (arith, length-map words valueOf)))
-    ∙ zeros-behind values (drop (0 + length values) (replicate 8 0)) (λ k. getD-drop (0 + length values) (replicate 8 0) k 0 ∙ zeros 8 (0 + length values + k)) place)
+    ap (λ (l : List ℕ). getD l place 0) (kept nothing words (omega arith) e ∙ sets-eq values empty 0 (omega (arith, length-map words valueOf)))
+    ∙ zeros-behind values (drop past empty) (λ k. getD-drop past empty k 0 ∙ zeros 8 (past + k)) place)
   where
     values : List ℕ
     values = map valueOf words
+
+    empty : List ℕ
+    empty = replicate 8 0
+
+    past : ℕ
+    past = 0 + length values
 
 -- ---- so they are judged alike
 
@@ -123,7 +122,9 @@ judged-alike name count numeric f g same =
   where
     choose : Bool → Bool → Bool → Said → Said
     choose known taken all call =
-        cond (not known) (Said.Wrong Fault.UnknownCommand) (cond (not taken) (Said.Wrong Fault.WrongCount) (cond (not all) (Said.Wrong Fault.NotANumber) call))
+        cond (not known) (Said.Wrong Fault.UnknownCommand)
+        (cond (not taken) (Said.Wrong Fault.WrongCount)
+        (cond (not all) (Said.Wrong Fault.NotANumber) call))
 
     go : (known taken all : Bool) → (taken ≡ true → count ≤ 8) → (count ≤ 8 → all ≡ true → f ≡ g)
         → choose known taken all (called name (min count 9) f) ≡ choose known taken all (called name count g)
@@ -141,21 +142,21 @@ unfolding nothing
 collected name words =
     ap₂ (λ (count : ℕ) (numeric : Bool). judged name count numeric (valueAt (heard nothing words)))
     (counted nothing words (omega arith) ∙ ap (λ (k : ℕ). min k 9) (omega arith)) (all-numbers nothing words)
-    ∙ judged-alike name (length words) (every isNumber words) (valueAt (heard nothing words)) (λ place. getD (map valueOf words) place 0) (by-place words)
+    ∙ judged-alike name (length words) (every isNumber words) (valueAt (heard nothing words)) _ (by-place words)
 
 -- ---- the words of a line one after the other
 
-module _ (line : List ℕ) (from at : ℕ) {a : Arguments} where
-  pub heard-start : a ≡ nothing → at ≡ from + blanks (drop from line) → heard a (words (drop at line)) ≡ heard nothing (words (drop from line))
-  heard-start none e = ap₂ heard none (same-words line from at e)
+pub heard-start : (line : List ℕ) (from at : ℕ) {a : Arguments} → a ≡ nothing → at ≡ from + blanks (drop from line)
+    → heard a (words (drop at line)) ≡ heard nothing (words (drop from line))
+heard-start line from at empty e = ap₂ heard empty (same-words line from at e)
 
-module _ (line : List ℕ) (at end next : ℕ) (a : Arguments) {b whole : Arguments} {word : Number} where
-  pub heard-more : at < length line → blanks (drop at line) ≡ 0 → end ≡ at + letters (drop at line)
-      → word ≡ numberOf (part at end line) → b ≡ with a word → next ≡ end + blanks (drop end line)
-      → heard a (words (drop at line)) ≡ whole → heard b (words (drop next line)) ≡ whole
-  unfolding heard
-  heard-more h begins ends read one past e =
-      ap₂ heard (one ∙ ap (with a) read) (same-words line end next past) ∙ sym (ap (heard a) (one-word line at end h begins ends)) ∙ e
+pub heard-more : (line : List ℕ) (at end next : ℕ) (a : Arguments) {b whole : Arguments} {word : Number}
+    → at < length line → blanks (drop at line) ≡ 0 → end ≡ at + letters (drop at line)
+    → word ≡ numberOf (part at end line) → b ≡ with a word → next ≡ end + blanks (drop end line)
+    → heard a (words (drop at line)) ≡ whole → heard b (words (drop next line)) ≡ whole
+unfolding heard
+heard-more line at end next a h begins ends read one past e =
+    ap₂ heard (one ∙ ap (with a) read) (same-words line end next past) ∙ sym (ap (heard a) (one-word line at end h begins ends)) ∙ e
 
 pub heard-end : (line : List ℕ) (at : ℕ) {a whole : Arguments} → length line ≤ at → heard a (words (drop at line)) ≡ whole → a ≡ whole
 unfolding heard words

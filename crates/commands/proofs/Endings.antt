@@ -1,6 +1,6 @@
 -- Where a line ends: one carriage return at its end does not belong to it. By recursion on the line.
 -- Assumes nothing.
-use Prim.Native.Nat.{ℕ, zero, suc, _-_, _≤_, _<_}
+use Prim.Native.Nat.{ℕ, zero, suc, _-_}
 use native.Mathlib.Omega.{arith}
 use mathlib.Core.Path.{_≡_, refl, sym, ap, _∙_}
 use mathlib.Core.Bool.{Bool, true, false, cond}
@@ -21,7 +21,8 @@ by-last (byte ∷ next ∷ bytes) zero h = absurd (omega arith)
 by-last (byte ∷ next ∷ bytes) (suc last) h =
     ap (λ (l : List ℕ). byte ∷ l) (by-last (next ∷ bytes) last (omega arith)) ∙ go (eqb (getD (next ∷ bytes) last 0) 13)
   where
-    go : (t : Bool) → byte ∷ cond t (take last (next ∷ bytes)) (next ∷ bytes) ≡ cond t (byte ∷ take last (next ∷ bytes)) (byte ∷ next ∷ bytes)
+    go : (t : Bool)
+        → byte ∷ cond t (take last (next ∷ bytes)) (next ∷ bytes) ≡ cond t (byte ∷ take last (next ∷ bytes)) (byte ∷ next ∷ bytes)
     go true = refl
     go false = refl
 

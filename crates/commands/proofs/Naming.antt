@@ -5,7 +5,7 @@ use Prim.Native.String.{String}
 use native.Mathlib.Omega.{arith}
 use mathlib.Core.Path.{_≡_, refl, sym, ap, _∙_}
 use mathlib.Core.Bool.{Bool, true, false, cond, _&&_, _||_, true≢false}
-use mathlib.Core.List.{List, [], _∷_}
+use mathlib.Core.List.{List, _∷_}
 use lib.Dec.{eqb, leb}
 use borrow.Author.Tests.{eqb-true, leb-true, leb-false}
 use Rattle.laws.proofs.Choices.{is-false}
@@ -15,12 +15,13 @@ use Rattle.commands.specs.Names.{named, plainCount, takesSet, takes}
 
 -- ---- a row of a table
 
-module _ (text-of : String) (name : Name) (rows : List (String × Name)) (otherwise : Name) (word : List ℕ) {found : Bool} (e : found ≡ same word (text text-of)) where
-  pub is-named : found ≡ true → name ≡ named ((text-of, name) ∷ rows) otherwise word
+module _ (letters : String) (name : Name) (rows : List (String × Name)) (otherwise : Name) (word : List ℕ) {found : Bool}
+    (e : found ≡ same word (text letters)) where
+  pub is-named : found ≡ true → name ≡ named ((letters, name) ∷ rows) otherwise word
   unfolding named
   is-named found-so = sym (ap (λ (t : Bool). cond t name (named rows otherwise word)) (sym e ∙ found-so))
 
-  pub not-named : found ≡ false → named ((text-of, name) ∷ rows) otherwise word ≡ named rows otherwise word
+  pub not-named : found ≡ false → named ((letters, name) ∷ rows) otherwise word ≡ named rows otherwise word
   unfolding named
   not-named not-so = ap (λ (t : Bool). cond t name (named rows otherwise word)) (sym e ∙ not-so)
 

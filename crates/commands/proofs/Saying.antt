@@ -21,9 +21,10 @@ use Rattle.commands.specs.Lines.{judged, saidBy}
 use Rattle.commands.proofs.Walking.{part, past-blanks, same-words, one-word, first-byte}
 use Rattle.commands.proofs.Collecting.{collected}
 
--- what a command's name and its words say
-abbrev commanded : List ℕ → List (List ℕ) → Said
-commanded name words = judged (nameOf name) (length words) (every isNumber words) (λ place. getD (map valueOf words) place 0)
+-- what the first word and the others say, where the first may begin a comment
+abbrev chosen : Bool → List ℕ → List (List ℕ) → Said
+chosen comment name words =
+    cond comment Said.Silent (judged (nameOf name) (length words) (every isNumber words) (λ place. getD (map valueOf words) place 0))
 
 module _ (line : List ℕ) (start : ℕ) (begins : start ≡ 0 + blanks (drop 0 line)) where
   pub nothing-said : length line ≤ start → Said.Silent ≡ saidBy (words line)
@@ -32,17 +33,17 @@ module _ (line : List ℕ) (start : ℕ) (begins : start ≡ 0 + blanks (drop 0 
 
   -- a word stands there: its first byte tells a comment
   by-first : (end : ℕ) → end ≡ start + letters (drop start line) → start < length line
-      → saidBy (words line) ≡ cond (eqb (getD line start 0) 35) Said.Silent (commanded (part start end line) (words (drop end line)))
+      → saidBy (words line) ≡ chosen (eqb (getD line start 0) 35) (part start end line) (words (drop end line))
   unfolding saidBy
   by-first end ends h =
       let clear = past-blanks line 0 start begins in
       ap saidBy (sym (same-words line 0 start begins) ∙ one-word line start end h clear ends)
-      ∙ ap (λ (t : Bool). cond t Said.Silent (commanded (part start end line) (words (drop end line)))) (first-byte line start end h clear ends)
+      ∙ ap (λ (t : Bool). chosen t (part start end line) (words (drop end line))) (first-byte line start end h clear ends)
 
   pub comment-said : start < length line → getD line start 0 ≡ 35 → Said.Silent ≡ saidBy (words line)
   comment-said h e =
       let end = start + letters (drop start line) in
-      sym (by-first end refl h ∙ ap (λ (t : Bool). cond t Said.Silent (commanded (part start end line) (words (drop end line)))) (eq-eqb _ _ e))
+      sym (by-first end refl h ∙ ap (λ (t : Bool). chosen t (part start end line) (words (drop end line))) (eq-eqb _ _ e))
 
   pub command-said : {name : Name} {given : Arguments} {said : Said} (end : ℕ)
       → start < length line → (getD line start 0 ≡ 35 → ⊥) → end ≡ start + letters (drop start line)
@@ -52,4 +53,4 @@ module _ (line : List ℕ) (start : ℕ) (begins : start ≡ 0 + blanks (drop 0 
       e
       ∙ ap₂ (λ (n : Name) (a : Arguments). judged n (a .count) (a .numeric) (valueAt a)) of-name of-words
       ∙ collected (nameOf (part start end line)) (words (drop end line))
-      ∙ sym (by-first end ends h ∙ ap (λ (t : Bool). cond t Said.Silent (commanded (part start end line) (words (drop end line)))) (ne-eqb _ _ other))
+      ∙ sym (by-first end ends h ∙ ap (λ (t : Bool). chosen t (part start end line) (words (drop end line))) (ne-eqb _ _ other))

@@ -2,10 +2,10 @@
 -- Assumes nothing.
 use Prim.Native.Nat.{ℕ, zero, suc, _+_, _-_, _≤_, _<_}
 use native.Mathlib.Omega.{arith}
-use mathlib.Core.Path.{_≡_, refl, sym, ap, ap₂, _∙_}
+use mathlib.Core.Path.{_≡_, sym, ap, ap₂, _∙_}
 use mathlib.Core.Bool.{Bool, true, false, cond, not}
 use mathlib.Core.List.{List, [], _∷_}
-use lib.ListN.{length, getD, take, drop, length-drop, drop-of-length-le}
+use lib.ListN.{length, getD, take, drop, length-drop}
 use lib.Seq.{drop-cons, drop-drop}
 use lib.Dec.{eqb}
 use Rattle.texts.specs.Words.{isBlank, words, front, blanks, letters}
@@ -50,7 +50,8 @@ module _ (line : List ℕ) (from at : ℕ) (e : at ≡ from + blanks (drop from 
 
 -- ---- one word
 
-module _ (line : List ℕ) (at end : ℕ) (within : at < length line) (begins : blanks (drop at line) ≡ 0) (e : end ≡ at + letters (drop at line)) where
+module _ (line : List ℕ) (at end : ℕ) (within : at < length line) (begins : blanks (drop at line) ≡ 0)
+    (e : end ≡ at + letters (drop at line)) where
   left : 0 < length (drop at line)
   left = omega (arith, length-drop at line)
 

@@ -1,19 +1,31 @@
--- The first mistake answers.
+-- The first mistake answers: each test that is passed leaves the next to decide.
 -- Assumes nothing.
 use borrow.Author.Needs.{needs}
 use Rattle.commands.specs.Lines.{judged}
 use Rattle.commands.proofs.lines.judge.Statement.{statement}
 use Rattle.commands.proofs.lines.judge.Tie as tie
 
-pub judge-spec : {M : Type 1} → statement M
+returns : tie.Need-returns
 unfolding judged
-judge-spec =
-    tie.close
-    (tie.spec
-    (λ c κs. search needs)
-    (λ c. simp (c .if1 .taken, ← c .before .is-known .ensures))
-    (λ c κs. search needs)
-    (λ c. simp (c .if2 .taken, ← c .before .takes .ensures, c .before .before .if1 .left, ← c .before .before .before .is-known .ensures))
-    (λ c. simp (c .if3 .taken, c .before .before .if2 .left, ← c .before .before .before .takes .ensures, c .before .before .before .before .if1 .left, ← c .before .before .before .before .before .is-known .ensures))
-    (λ c κs. search needs)
-    (λ c. simp (c .call .ensures, c .before .if3 .left, c .before .before .before .if2 .left, ← c .before .before .before .before .takes .ensures, c .before .before .before .before .before .if1 .left, ← c .before .before .before .before .before .before .is-known .ensures)))
+returns c = simp (c .if1 .taken, ← c .before .is-known .ensures)
+
+returns-2 : tie.Need-returns-2
+unfolding judged
+returns-2 c = let known = c .before .before in simp (c .if2 .taken, ← c .before .takes .ensures, known .if1 .left, ← known .before .is-known .ensures)
+
+returns-3 : tie.Need-returns-3
+unfolding judged
+returns-3 c =
+    let taken = c .before .before in
+    let known = taken .before .before in
+    simp (c .if3 .taken, taken .if2 .left, ← taken .before .takes .ensures, known .if1 .left, ← known .before .is-known .ensures)
+
+returns-4 : tie.Need-returns-4
+unfolding judged
+returns-4 c =
+    let taken = c .before .before .before in
+    let known = taken .before .before in
+    simp (c .call .ensures, c .before .if3 .left, taken .if2 .left, ← taken .before .takes .ensures, known .if1 .left, ← known .before .is-known .ensures)
+
+pub judge-spec : {M : Type 1} → statement M
+judge-spec = tie.close (tie.spec (λ c κs. search needs) returns (λ c κs. search needs) returns-2 returns-3 (λ c κs. search needs) returns-4)

@@ -14,7 +14,9 @@ returns c = simp (lt-ltb _ _ (c .if1 .taken))
 
 -- the end stands in the line
 up-to : tie.Need-slice-aggregate-read-words
-up-to c = let ended = c .before in sym (length-take-le (ended .end-of .result) (ended .before .before .before .args .line .now) (ended .end-of .ensures .1))
+up-to c =
+    let ended = c .before in
+    sym (length-take-le (ended .end-of .result) (ended .before .before .before .args .line .now) (ended .end-of .ensures .1))
 
 returns-2 : tie.Need-returns-2
 unfolding lineSays

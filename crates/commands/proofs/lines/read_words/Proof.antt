@@ -1,8 +1,7 @@
 -- No word, a comment, or a command.
 -- Assumes nothing.
-use native.Mathlib.Omega.{arith}
 use borrow.Author.Needs.{needs}
-use Rattle.commands.proofs.Walking.{past-blanks, word-within, word-some}
+use Rattle.commands.proofs.Walking.{past-blanks, word-within}
 use Rattle.commands.proofs.Saying.{nothing-said, comment-said, command-said}
 use Rattle.commands.proofs.lines.read_words.Statement.{statement}
 use Rattle.commands.proofs.lines.read_words.Tie as tie
@@ -25,7 +24,8 @@ returns-3 : tie.Need-returns-3
 returns-3 c =
     let ended = c .before .before .before .before in
     let some = ended .before .before .before in
-    command-said (some .before .before .before .args .line .now) _ (some .before .word-start .ensures) _ (some .if1 .left) (ended .before .if2 .left) (ended .word-end .ensures) (c .before .before .of .ensures) (c .before .of2 .ensures) (c .judge .ensures)
+    command-said (some .before .before .before .args .line .now) _ (some .before .word-start .ensures) _ (some .if1 .left)
+    (ended .before .if2 .left) (ended .word-end .ensures) (c .before .before .of .ensures) (c .before .of2 .ensures) (c .judge .ensures)
 
 pub read-words-spec : {M : Type 1} → statement M
 read-words-spec =

@@ -1,7 +1,7 @@
 -- Row by row: a row whose name is not the word is passed over.
 -- Assumes nothing.
 use Prim.Native.Nat.{ℕ}
-use mathlib.Core.Path.{_≡_, refl, sym, _∙_}
+use mathlib.Core.Path.{_≡_, sym, _∙_}
 use lib.ListN.{drop}
 use borrow.Author.Needs.{needs}
 use Rattle.laws.specs.Fills.{tabulate}
@@ -13,7 +13,9 @@ use Rattle.commands.proofs.names.edit_name.Tie as tie
 
 -- the first rows are not the word: the others decide
 abbrev Passed : ℕ → tie.Start → Type 0
-Passed k start = named editNames (start .args .otherwise) (start .args .word .now) ≡ named (drop k editNames) (start .args .otherwise) (start .args .word .now)
+Passed k start =
+    named editNames (start .args .otherwise) (start .args .word .now)
+    ≡ named (drop k editNames) (start .args .otherwise) (start .args .word .now)
 
 abbrev start1 : tie.Else1 → tie.Start
 start1 c = c .before .before .before .before
@@ -97,4 +99,14 @@ unfolding named
 returns-8 c = sym (past7 c)
 
 pub edit-name-spec : {M : Type 1} → statement M
-edit-name-spec = tie.close (tie.spec (λ c. search needs) (λ c κs. search needs) returns (λ c. search needs) (λ c κs. search needs) returns-2 (λ c. search needs) (λ c κs. search needs) returns-3 (λ c. search needs) (λ c κs. search needs) returns-4 (λ c. search needs) (λ c κs. search needs) returns-5 (λ c. search needs) (λ c κs. search needs) returns-6 (λ c. search needs) (λ c κs. search needs) returns-7 returns-8)
+edit-name-spec =
+    tie.close
+    (tie.spec
+    (λ c. search needs) (λ c κs. search needs) returns
+    (λ c. search needs) (λ c κs. search needs) returns-2
+    (λ c. search needs) (λ c κs. search needs) returns-3
+    (λ c. search needs) (λ c κs. search needs) returns-4
+    (λ c. search needs) (λ c κs. search needs) returns-5
+    (λ c. search needs) (λ c κs. search needs) returns-6
+    (λ c. search needs) (λ c κs. search needs) returns-7
+    returns-8)

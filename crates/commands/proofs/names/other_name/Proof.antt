@@ -1,7 +1,7 @@
 -- Row by row: a row whose name is not the word is passed over.
 -- Assumes nothing.
 use Prim.Native.Nat.{ℕ}
-use mathlib.Core.Path.{_≡_, refl, sym, _∙_}
+use mathlib.Core.Path.{_≡_, sym, _∙_}
 use lib.ListN.{drop}
 use borrow.Author.Needs.{needs}
 use Rattle.laws.specs.Fills.{tabulate}
@@ -14,7 +14,9 @@ use Rattle.commands.proofs.names.other_name.Tie as tie
 
 -- the first rows are not the word: the others decide
 abbrev Passed : ℕ → tie.Start → Type 0
-Passed k start = named otherNames Name.Unknown (start .args .word .now) ≡ named (drop k otherNames) Name.Unknown (start .args .word .now)
+Passed k start =
+    named otherNames Name.Unknown (start .args .word .now)
+    ≡ named (drop k otherNames) Name.Unknown (start .args .word .now)
 
 abbrev start1 : tie.Else1 → tie.Start
 start1 c = c .before .before .before .before
@@ -87,4 +89,13 @@ unfolding named
 returns-7 c = sym (past6 c)
 
 pub other-name-spec : {M : Type 1} → statement M
-other-name-spec = tie.close (tie.spec (λ c. search needs) (λ c κs. search needs) returns (λ c. search needs) (λ c κs. search needs) returns-2 (λ c. search needs) (λ c κs. search needs) returns-3 (λ c. search needs) (λ c κs. search needs) returns-4 (λ c. search needs) (λ c κs. search needs) returns-5 (λ c. search needs) (λ c κs. search needs) returns-6 returns-7)
+other-name-spec =
+    tie.close
+    (tie.spec
+    (λ c. search needs) (λ c κs. search needs) returns
+    (λ c. search needs) (λ c κs. search needs) returns-2
+    (λ c. search needs) (λ c κs. search needs) returns-3
+    (λ c. search needs) (λ c κs. search needs) returns-4
+    (λ c. search needs) (λ c κs. search needs) returns-5
+    (λ c. search needs) (λ c κs. search needs) returns-6
+    returns-7)

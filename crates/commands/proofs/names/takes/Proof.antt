@@ -7,14 +7,24 @@ use Rattle.commands.proofs.Naming.{few}
 use Rattle.commands.proofs.names.takes.Statement.{statement}
 use Rattle.commands.proofs.names.takes.Tie as tie
 
-pub takes-spec : {M : Type 1} → statement M
+returns : tie.Need-returns
 unfolding takes
-takes-spec =
-    tie.close
-    (tie.spec
-    (λ c κs. search needs)
-    (λ c. simp (eq-eqb _ _ (c .if1 .taken), ← c .before .plain-count .ensures))
-    (λ c κs. search needs)
-    (λ c. search (few (c .before .before .before .before .args .name), c .before .before .before .plain-count .ensures, needs))
-    (λ c. simp (c .if2 .taken, ← c .before .takes-set .ensures, ne-eqb _ _ (c .before .before .if1 .left), ← c .before .before .before .plain-count .ensures))
-    (λ c. simp (c .if2 .left, ← c .before .takes-set .ensures, ne-eqb _ _ (c .before .before .if1 .left), ← c .before .before .before .plain-count .ensures)))
+returns c = simp (eq-eqb _ _ (c .if1 .taken), ← c .before .plain-count .ensures)
+
+add-result : tie.Need-add-result
+add-result c = let plain = c .before .before .before in search (few (plain .before .args .name), plain .plain-count .ensures, needs)
+
+returns-2 : tie.Need-returns-2
+unfolding takes
+returns-2 c =
+    let other = c .before .before in
+    simp (c .if2 .taken, ← c .before .takes-set .ensures, ne-eqb _ _ (other .if1 .left), ← other .before .plain-count .ensures)
+
+returns-3 : tie.Need-returns-3
+unfolding takes
+returns-3 c =
+    let other = c .before .before in
+    simp (c .if2 .left, ← c .before .takes-set .ensures, ne-eqb _ _ (other .if1 .left), ← other .before .plain-count .ensures)
+
+pub takes-spec : {M : Type 1} → statement M
+takes-spec = tie.close (tie.spec (λ c κs. search needs) returns (λ c κs. search needs) add-result returns-2 returns-3)
