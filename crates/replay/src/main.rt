@@ -134,15 +134,19 @@ fn one_more(lines: u64) -> u64 {
 // A last line without a line feed is a line too.
 fn finish(bench: Bench, input: &[u8], out: &mut [u8]) -> Bench {
     let kept = least(bench.kept, input.len());
-    let mut last = bench;
-    if 0 < kept {
-        last = answer(bench, &input[..kept], out);
+    if kept == 0 {
+        return close(bench, out);
     }
-    let closed = Bench {
+    let last = answer(bench, &input[..kept], out);
+    close(last, out)
+}
+
+fn close(bench: Bench, out: &[u8]) -> Bench {
+    let sent = send(bench, out);
+    Bench {
         is_open: false,
-        ..last
-    };
-    send(closed, out)
+        ..sent
+    }
 }
 
 // Writes the answers out; the sheet is empty again.
