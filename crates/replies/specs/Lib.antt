@@ -1,4 +1,1 @@
-pub mod Numbers
-pub mod Cells
-pub mod Shows
 pub mod Replies

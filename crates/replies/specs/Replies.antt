@@ -22,9 +22,9 @@ use Rattle.commands.specs.declared.Fault.{Fault}
 use Rattle.commands.specs.declared.Said.{Said}
 use Rattle.commands.specs.Lines.{lineSays}
 use Rattle.replies.specs.declared.Told.{Told}
-use Rattle.replies.specs.Numbers.{spaced, counted}
-use Rattle.replies.specs.Cells.{countedWith}
-use Rattle.replies.specs.Shows.{panelText}
+use Rattle.shows.specs.Numbers.{spaced, counted}
+use Rattle.shows.specs.Cells.{countedWith}
+use Rattle.shows.specs.Shows.{panelText}
 
 -- A panel, and the sheet that the answers are written on.
 pub record Desk : Type 0 where

@@ -1,12 +1,5 @@
 // A command carried out: the panel's own call, and its answer on the sheet.
 use crate::Told;
-use crate::cells::NO_REPORT;
-use crate::cells::OFF;
-use crate::cells::put_with_motors;
-use crate::cells::put_with_reports;
-use crate::numbers::put_counted;
-use crate::numbers::put_spaced;
-use crate::shows::put_panel;
 use bus::strips::strip;
 use bus::telegrams::telegram;
 use bus::time_steps::time_step;
@@ -20,6 +13,13 @@ use edits::wiring::add_link;
 use edits::wiring::remove_link;
 use panel::Panel;
 use panel::calls::Answered;
+use shows::cells::NO_REPORT;
+use shows::cells::OFF;
+use shows::cells::put_with_motors;
+use shows::cells::put_with_reports;
+use shows::numbers::put_counted;
+use shows::numbers::put_spaced;
+use shows::panels::put_panel;
 use splices::splice_in;
 use splices::splice_out;
 use texts::sheets::put_text;

@@ -10,7 +10,7 @@ use Rattle.texts.specs.Sheet.{Sheet, sheet, puts, joined}
 use Rattle.texts.proofs.Sheet.{put-joined}
 use Rattle.decimals.specs.Decimals.{decimal}
 use Rattle.edits.specs.Edits.{stockOf}
-use Rattle.replies.specs.Numbers.{spaced}
+use Rattle.shows.specs.Numbers.{spaced}
 use Rattle.replies.specs.Replies.{Desk, wrote, carried}
 use Rattle.replies.proofs.calls.take_inventory.Statement.{statement}
 use Rattle.replies.proofs.calls.take_inventory.Tie as tie
