@@ -1,4 +1,4 @@
-/* The command language of COMMANDS.md. */
+/* The command language of docs/COMMANDS.md. */
 
 #include "commands.h"
 

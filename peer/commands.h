@@ -1,4 +1,4 @@
-/* The command language of COMMANDS.md: one line in, one answer line out. */
+/* The command language of docs/COMMANDS.md: one line in, one answer line out. */
 
 #ifndef COMMANDS_H
 #define COMMANDS_H

@@ -1,6 +1,6 @@
 /* A panel on the bench: reads commands from standard input, one a line,
    carries each out on one panel that starts empty, and writes one line for
-   each (COMMANDS.md). */
+   each (docs/COMMANDS.md). */
 
 #define _POSIX_C_SOURCE 200809L
 

@@ -1,5 +1,5 @@
 /* scripts SEED COUNT: writes a random script of the command language
-   (peer/COMMANDS.md) with COUNT lines that are answered, and some that are
+   (docs/COMMANDS.md) with COUNT lines that are answered, and some that are
    passed over in silence. The same seed gives the same script, and a smaller
    COUNT gives a beginning of it; an odd seed leaves out the last line feed.
 
