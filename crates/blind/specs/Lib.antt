@@ -2,3 +2,4 @@ pub mod Fields
 pub mod Parameters
 pub mod Orders
 pub mod Millisecond
+pub mod Along

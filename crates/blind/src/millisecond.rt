@@ -5,8 +5,9 @@ use crate::Goal;
 use crate::Motion;
 use crate::Run;
 ghost use mathlib.Core.Path.{_≡_};
-ghost use Prim.Native.Nat.{_-_};
+ghost use Prim.Native.Nat.{_-_, min};
 ghost use Rattle.blind.specs.Millisecond.{beside, waited, moved, endOf, arrived, shortened, ran, millisecond, milliseconds};
+ghost use Rattle.blind.specs.Along.{along};
 
 impl Blind {
     pub fn millisecond(self) -> Blind
@@ -26,11 +27,43 @@ impl Blind {
     pub fn milliseconds(self, dt: u64) -> Blind
         ensures { λ r. ⌜ r ≡ milliseconds dt self ⌝ }
     {
+        let motion = self.motion;
+        match motion {
+            Motion::Off(rest) => self.one_by_one(dt),
+            Motion::Waits(rest, run) => self.one_by_one(dt),
+            Motion::Runs(run) => self.run_on(run, dt),
+        }
+    }
+
+    fn one_by_one(self, dt: u64) -> Blind
+        ensures { λ r. ⌜ r ≡ milliseconds dt self ⌝ }
+    {
         let mut blind = self;
         for _ in 0..dt {
             blind = blind.millisecond();
         }
         blind
+    }
+
+    // Until its last millisecond a run changes the position and its length alone, so only these are worked on.
+    fn run_on(self, run: Run, dt: u64) -> Blind
+        requires { ⌜ self .motion ≡ Motion.Runs run ⌝ }
+        ensures { λ r. ⌜ r ≡ milliseconds dt self ⌝ }
+    {
+        let direction = run.direction;
+        let bottom = self.params.bottom();
+        let smooth = least(dt, less_one(run.length));
+        let position = along(direction, bottom, self.position, smooth);
+        let left = Run {
+            length: run.length - smooth,
+            ..run
+        };
+        let blind = Blind {
+            position,
+            motion: Motion::Runs(left),
+            ..self
+        };
+        blind.one_by_one(dt - smooth)
     }
 
     fn wait(self, rest: u64, run: Run) -> Blind
@@ -115,6 +148,23 @@ fn less_one(n: u64) -> u64
     ensures { λ r. ⌜ r ≡ n - 1 ⌝ }
 {
     if n == 0 { 0 } else { n - 1 }
+}
+
+fn least(a: u64, b: u64) -> u64
+    ensures { λ r. ⌜ r ≡ min a b ⌝ }
+{
+    if a < b { a } else { b }
+}
+
+// The position after some milliseconds of running.
+fn along(direction: Direction, bottom: u32, position: u32, count: u64) -> u32
+    ensures { λ r. ⌜ r ≡ along count direction bottom position ⌝ }
+{
+    let mut at = position;
+    for _ in 0..count {
+        at = beside(direction, bottom, at);
+    }
+    at
 }
 
 fn beside(direction: Direction, bottom: u32, position: u32) -> u32

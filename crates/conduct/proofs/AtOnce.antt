@@ -16,20 +16,6 @@ use Rattle.blind.specs.Parameters.{bottom}
 use Rattle.blind.specs.Orders.{started, motorOff}
 use Rattle.blind.specs.Millisecond.{beside, moved, arrived, shortened, ran, waited, millisecondAt, millisecond, milliseconds}
 
--- ---- cutting
-
--- dt milliseconds and one more: the one may come first
-pub one-first : (k : ℕ) (b : Blind) → milliseconds k (millisecond b) ≡ milliseconds (suc k) b
-unfolding milliseconds
-one-first zero b = refl
-one-first (suc k) b = ap millisecond (one-first k b)
-
--- time may be cut anywhere
-pub cut : (j k : ℕ) (b : Blind) → milliseconds (j + k) b ≡ milliseconds k (milliseconds j b)
-unfolding milliseconds
-cut j zero b = rw add-zero
-cut j (suc k) b = rw add-suc (ap millisecond (cut j k b))
-
 -- ---- at rest
 
 pub resting : (k rest : ℕ) (b : Blind) → milliseconds k (withMotion (Motion.Off rest) b) ≡ withMotion (Motion.Off (rest - k)) b

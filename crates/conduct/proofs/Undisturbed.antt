@@ -26,7 +26,8 @@ use Rattle.reading.specs.Sound.{SoundMotion, Sound}
 use Rattle.rules.specs.declared.Input.{Input}
 use Rattle.rules.specs.Rules.{heeded}
 use Rattle.conduct.specs.Courses.{Event, after, duration, flagsAfter, Undisturbed, ended, told, passed, Engaged, waits, runs, untilEnd, Ended}
-use Rattle.conduct.proofs.AtOnce.{one-first, cut, waiting, wait-over, shorter, besideBy, movedBy, running, run-over}
+use Rattle.blind.proofs.Cutting.{one-first, cut}
+use Rattle.conduct.proofs.AtOnce.{waiting, wait-over, shorter, besideBy, movedBy, running, run-over}
 use Rattle.conduct.proofs.Duties.{idle-keeps}
 
 -- ---- no millisecond looks at the flags

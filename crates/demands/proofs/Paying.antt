@@ -14,7 +14,7 @@ use Rattle.blind.specs.Millisecond.{millisecond, milliseconds}
 use Rattle.reading.specs.Reports.{command, motorOf}
 use Rattle.reading.specs.Sound as ofBlind
 use Rattle.conduct.specs.Courses.{opposite, offs}
-use Rattle.conduct.proofs.AtOnce.{one-first}
+use Rattle.blind.proofs.Cutting.{one-first}
 use Rattle.conduct.proofs.Motions.{millisecond-sound}
 use Rattle.conduct.proofs.Owed.{owed, off, millisecond-pays, running-against, running-along, off-while-running}
 use Rattle.demands.specs.Demand2.{Moment, motorsOf, Paused}

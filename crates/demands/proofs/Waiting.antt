@@ -20,7 +20,8 @@ use Rattle.reading.specs.Reports.{command, motorAt, motorOf}
 use Rattle.rules.specs.Rules.{heeded}
 use Rattle.rules.specs.Telegrams.{inputOf}
 use Rattle.conduct.specs.Courses.{flagsAfter}
-use Rattle.conduct.proofs.AtOnce.{cut, waiting, wait-over}
+use Rattle.blind.proofs.Cutting.{cut}
+use Rattle.conduct.proofs.AtOnce.{waiting, wait-over}
 use Rattle.conduct.proofs.Duties.{idle-keeps}
 use Rattle.conduct.proofs.Undisturbed.{milliseconds-flags}
 use Rattle.links.specs.declared.link.Link.{Link}

@@ -1,4 +1,4 @@
--- `milliseconds` meets its contract: after i turns the blind is i milliseconds on.
+-- After i turns the blind is i milliseconds on.
 -- Assumes nothing.
 use Prim.Native.Nat.{ℕ, _≤_, _-_, _+_}
 use mathlib.Core.Path.{_≡_, refl, ap, _∙_}
@@ -7,8 +7,8 @@ use native.Mathlib.Numerals.{add-one}
 use borrow.Author.Needs.{needs}
 use Rattle.blind.specs.Millisecond.{millisecond, milliseconds}
 use Rattle.blind.specs.declared.Blind.{Blind}
-use Rattle.blind.proofs.Blind.milliseconds.Statement.{statement}
-use Rattle.blind.proofs.Blind.milliseconds.Tie as tie
+use Rattle.blind.proofs.Blind.one_by_one.Statement.{statement}
+use Rattle.blind.proofs.Blind.one_by_one.Tie as tie
 
 abbrev Inv-loop : tie.InvT-loop
 Inv-loop dt blind₀ counter₀ blind counter = (counter ≤ dt) × (blind ≡ milliseconds counter blind₀)
@@ -33,8 +33,8 @@ returns c =
     let over : c .before .loop .counter ≡ c .before .before .args .dt = le-antisymm (c .before .loop .inv .0) (c .loop-test .left) in
     rw (← over) (c .before .loop .inv .1)
 
-pub milliseconds-spec : {M : Type 1} → statement M
-milliseconds-spec =
+pub one-by-one-spec : {M : Type 1} → statement M
+one-by-one-spec =
     tie.close
     (tie.spec
     Inv-loop
