@@ -1,0 +1,8 @@
+/* What the peer uses of the C library's string.h. */
+
+#ifndef BENCH_STRING_H
+#define BENCH_STRING_H
+
+void *memset(void *to, int byte, __SIZE_TYPE__ count);
+
+#endif

@@ -1,0 +1,148 @@
+// One workload: a call, the case in which it is made, the panel's size and how many turns. A call is one of 12 numbers:
+// time steps of 1, 1,000 and 60,000 ms; telegrams to one link and to the shared ones; strip reading; inventory; links
+// added and removed; splices in and out; install; remove blind; write parameters.
+use crate::bus_turns::strips;
+use crate::bus_turns::telegrams;
+use crate::bus_turns::time_steps;
+use crate::edit_turns::installs;
+use crate::edit_turns::inventories;
+use crate::edit_turns::removals;
+use crate::edit_turns::splicings;
+use crate::edit_turns::wirings;
+use crate::edit_turns::writes;
+use crate::panels::FRONT;
+use crate::panels::SHARED;
+use crate::panels::alone;
+use crate::panels::fitted;
+use crate::tally::Tally;
+use panel::Panel;
+use std::num::wrapping_sub_u64;
+
+// Calls before this one find the blinds running, the others find them at rest.
+const FIRST_EDIT: u64 = 6;
+
+// The call that reads the strip.
+const STRIP: u64 = 5;
+
+// The call that adds a link, so that its table starts with one less.
+const WIRING: u64 = 7;
+
+// The cases: done; refused with 1; with 11; with 12, for the blinds and for the links.
+const OUTSIDE: u64 = 1;
+
+const WRONG_CELLS: u64 = 2;
+
+const BAD_BLINDS: u64 = 3;
+
+const BAD_LINKS: u64 = 4;
+
+// A time step that is longer than any may be.
+const TOO_LONG: u64 = 60_001;
+
+pub(crate) struct Workload {
+    pub(crate) call: u64,
+    pub(crate) case: u64,
+    pub(crate) blinds: u64,
+    pub(crate) links: u64,
+    pub(crate) turns: u64,
+}
+
+impl Workload {
+    pub(crate) fn run(self) -> Tally {
+        let panel = self.panel();
+        if self.call < FIRST_EDIT {
+            self.run_bus(panel)
+        } else {
+            self.run_edits(panel)
+        }
+    }
+
+    fn panel(self) -> Panel {
+        let links = if self.call == WIRING {
+            wrapping_sub_u64(self.links, 1)
+        } else {
+            self.links
+        };
+        let panel = fitted(self.blinds, links, self.call < FIRST_EDIT);
+        let case = self.case;
+        match case {
+            BAD_BLINDS => bad_blinds(panel),
+            BAD_LINKS => bad_links(panel),
+            _ => panel,
+        }
+    }
+
+    // One cell less than the call fills is lent, where it is to be refused for that.
+    fn run_bus(self, panel: Panel) -> Tally {
+        let mut cells = [0u16; 64];
+        if self.call == STRIP {
+            self.run_strips(panel)
+        } else if self.case == WRONG_CELLS {
+            self.run_reported(panel, &mut cells[..63])
+        } else {
+            self.run_reported(panel, &mut cells)
+        }
+    }
+
+    fn run_reported(self, panel: Panel, cells: &mut [u16]) -> Tally {
+        let turns = self.turns;
+        let call = self.call;
+        match call {
+            0 => time_steps(panel, self.or_outside(1, TOO_LONG), turns, cells),
+            1 => time_steps(panel, self.or_outside(1_000, TOO_LONG), turns, cells),
+            2 => time_steps(panel, self.or_outside(60_000, TOO_LONG), turns, cells),
+            3 => telegrams(
+                panel,
+                self.or_outside(alone(self.blinds, self.links), 0),
+                turns,
+                cells,
+            ),
+            _ => telegrams(panel, self.or_outside(SHARED, 0), turns, cells),
+        }
+    }
+
+    fn run_strips(self, panel: Panel) -> Tally {
+        let mut cells = [0u8; 128];
+        if self.case == WRONG_CELLS {
+            strips(panel, self.turns, &mut cells[..127])
+        } else {
+            strips(panel, self.turns, &mut cells)
+        }
+    }
+
+    fn run_edits(self, panel: Panel) -> Tally {
+        let turns = self.turns;
+        let call = self.call;
+        match call {
+            6 => inventories(panel, turns),
+            7 => wirings(panel, self.or_outside(FRONT, 0), turns),
+            8 => splicings(panel, self.or_outside(0, 128), turns),
+            9 => installs(panel, self.or_outside(0, 64), turns),
+            10 => removals(panel, self.or_outside(0, 64), turns),
+            _ => writes(panel, self.or_outside(0, 64), turns),
+        }
+    }
+
+    fn or_outside(self, argument: u64, outside: u64) -> u64 {
+        if self.case == OUTSIDE {
+            outside
+        } else {
+            argument
+        }
+    }
+}
+
+// The last blind stands where the first one does.
+fn bad_blinds(panel: Panel) -> Panel {
+    let mut next = panel;
+    next.terminals[63] = panel.terminals[0];
+    next
+}
+
+// The last but one link of a full table stands twice.
+fn bad_links(panel: Panel) -> Panel {
+    let mut table = panel.table;
+    let link = table.links[509];
+    table.links[510] = link;
+    Panel { table, ..panel }
+}
