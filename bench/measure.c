@@ -21,6 +21,21 @@
 
 enum { MOST_ROUNDS = 99, MOST_WORDS = 40, LONGEST_PATH = 4096 };
 
+/* A measure whose spread is wider, in per cent, was disturbed: it is taken
+   again, and made so often at most. */
+enum { WIDEST_SPREAD = 15, MOST_ATTEMPTS = 3 };
+
+struct program {
+    const char *name;
+    char path[LONGEST_PATH];
+    char turns[24];
+    char *words[MOST_WORDS];
+    unsigned long few;
+    double samples[MOST_ROUNDS];
+};
+
+/* ---- One run --------------------------------------------------------- */
+
 /* The processor time of one run in nanoseconds. */
 static double run(char **words)
 {
@@ -41,20 +56,18 @@ static double run(char **words)
          + 1e3 * (used.ru_utime.tv_usec + used.ru_stime.tv_usec);
 }
 
-struct program {
-    char *words[MOST_WORDS];
-    const char *name;
-    char path[LONGEST_PATH];
-    char turns[24];
-    unsigned long few;
-    double samples[MOST_ROUNDS];
-};
-
 static double run_turns(struct program *program, unsigned long turns)
 {
     snprintf(program->turns, sizeof program->turns, "%lu", turns);
     return run(program->words);
 }
+
+static void choose_layout(struct program *program, int round)
+{
+    snprintf(program->path, sizeof program->path, "%s.%d", program->name, round);
+}
+
+/* ---- How many turns -------------------------------------------------- */
 
 /* The quicker of two runs: what disturbs a run only adds to it. */
 static double quickest(struct program *program, unsigned long turns)
@@ -67,16 +80,14 @@ static double quickest(struct program *program, unsigned long turns)
    times as many. */
 static void choose_turns(struct program *program, double wanted)
 {
+    choose_layout(program, 0);
     double none = quickest(program, 0), spent = 0;
     program->few = 1;
     while ((spent = quickest(program, program->few) - none) < wanted)
         program->few *= spent < wanted / 16 ? 16 : 1 + (unsigned long)(wanted / spent);
 }
 
-static void choose_layout(struct program *program, int round)
-{
-    snprintf(program->path, sizeof program->path, "%s.%d", program->name, round);
-}
+/* ---- Samples --------------------------------------------------------- */
 
 static void sample(struct program *program, int round)
 {
@@ -92,12 +103,44 @@ static int ascending(const void *a, const void *b)
     return (x > y) - (x < y);
 }
 
-static void report(struct program *program, int rounds)
+static double median(const struct program *program, int rounds)
 {
-    qsort(program->samples, rounds, sizeof(double), ascending);
-    double median = program->samples[rounds / 2];
+    return program->samples[rounds / 2];
+}
+
+static double spread(const struct program *program, int rounds)
+{
     double quartiles = program->samples[rounds * 3 / 4] - program->samples[rounds / 4];
-    printf("%.2f %.1f ", median, 50 * quartiles / median);
+    return 50 * quartiles / median(program, rounds);
+}
+
+static int is_steady(const struct program *program, int rounds)
+{
+    return median(program, rounds) > 0 && spread(program, rounds) <= WIDEST_SPREAD;
+}
+
+/* All rounds of both programs. */
+static void measure(struct program programs[2], int rounds, double wanted)
+{
+    for (int i = 0; i < 2; i++)
+        choose_turns(&programs[i], wanted);
+    for (int round = 0; round < rounds; round++)
+        for (int i = 0; i < 2; i++)
+            sample(&programs[i], round);
+    for (int i = 0; i < 2; i++)
+        qsort(programs[i].samples, rounds, sizeof(double), ascending);
+}
+
+/* ---- The command line ------------------------------------------------ */
+
+/* The words of a run: the command, the workload and the turns. */
+static void prepare(struct program *program, char **command, int words, char **workload, int numbers)
+{
+    memcpy(program->words, command, words * sizeof(char *));
+    memcpy(program->words + words, workload, numbers * sizeof(char *));
+    program->name = command[words - 1];
+    program->words[words - 1] = program->path;
+    program->words[words + numbers] = program->turns;
 }
 
 int main(int argc, char **argv)
@@ -106,23 +149,17 @@ int main(int argc, char **argv)
     int rounds = argc > 1 ? atoi(argv[1]) : 0;
     double wanted = argc > 2 ? 1e6 * atof(argv[2]) : 0;
     int words = argc > 3 ? atoi(argv[3]) : 0;
-    int rest = argc - 4 - 2 * words;
-    if (rounds < 1 || words < 1 || rounds > MOST_ROUNDS || rest < 1 || words + rest + 2 > MOST_WORDS)
+    int numbers = argc - 4 - 2 * words;
+    if (rounds < 1 || rounds > MOST_ROUNDS || words < 1 || numbers < 1 || words + numbers + 2 > MOST_WORDS)
         return 2;
-    for (int i = 0; i < 2; i++) {
-        memcpy(programs[i].words, argv + 4 + i * words, words * sizeof(char *));
-        memcpy(programs[i].words + words, argv + 4 + 2 * words, rest * sizeof(char *));
-        programs[i].words[words + rest] = programs[i].turns;
-        programs[i].name = argv[4 + (i + 1) * words - 1];
-        programs[i].words[words - 1] = programs[i].path;
-        choose_layout(&programs[i], 0);
-        choose_turns(&programs[i], wanted);
-    }
-    for (int round = 0; round < rounds; round++)
-        for (int i = 0; i < 2; i++)
-            sample(&programs[i], round);
-    report(&programs[0], rounds);
-    report(&programs[1], rounds);
+    for (int i = 0; i < 2; i++)
+        prepare(&programs[i], argv + 4 + i * words, words, argv + 4 + 2 * words, numbers);
+    int attempts = 0;
+    do
+        measure(programs, rounds, wanted);
+    while (++attempts < MOST_ATTEMPTS && !(is_steady(&programs[0], rounds) && is_steady(&programs[1], rounds)));
+    for (int i = 0; i < 2; i++)
+        printf("%.2f %.1f ", median(&programs[i], rounds), spread(&programs[i], rounds));
     printf("\n");
     return 0;
 }
