@@ -1,1 +1,3 @@
 pub mod Refusals
+pub mod Rules
+pub mod Exact

@@ -1,5 +1,10 @@
+pub mod Each
+pub mod Kept
+pub mod Copies
+pub mod Outcomes
 pub mod Choices
 pub mod Deciding
 pub mod Fills
 pub mod Every
 pub mod Any
+pub mod Counts

@@ -1,3 +1,4 @@
+pub mod Kept
 pub mod Decides
 pub mod Fills
 pub mod Every
