@@ -1,2 +1,2 @@
 pub mod Cutting
-pub mod RunningOn
+pub mod AtOnce

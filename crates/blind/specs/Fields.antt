@@ -1,8 +1,9 @@
--- A blind with one of its fields set anew and every other as it was.
+-- A blind with one of its fields set anew and every other as it was, and the flags of which none is on.
 -- Assumes nothing.
-use Prim.Native.Nat.{ℕ}
-use mathlib.Core.Bool.{Bool}
-use Rattle.blind.specs.declared.Params.{Params}
+use mathlib.Core.Bool.{false}
+use Rattle.params.specs.declared.Params.{Params}
+use Rattle.heights.specs.declared.Place.{Place}
+use Rattle.blind.specs.declared.Forced.{Forced}
 use Rattle.blind.specs.declared.Flags.{Flags}
 use Rattle.blind.specs.declared.Last.{Last}
 use Rattle.blind.specs.declared.Motion.{Motion}
@@ -10,20 +11,23 @@ use Rattle.blind.specs.declared.Blind.{Blind}
 
 abbrev pub withParams : Params → Blind → Blind
 withParams params b =
-    record { params = params; flags = b .flags; position = b .position; valid = b .valid; last = b .last; motion = b .motion }
+    record { params = params; flags = b .flags; place = b .place; last = b .last; motion = b .motion }
 
 abbrev pub withFlags : Flags → Blind → Blind
 withFlags flags b =
-    record { params = b .params; flags = flags; position = b .position; valid = b .valid; last = b .last; motion = b .motion }
+    record { params = b .params; flags = flags; place = b .place; last = b .last; motion = b .motion }
 
-abbrev pub withPosition : ℕ → Bool → Blind → Blind
-withPosition position valid b =
-    record { params = b .params; flags = b .flags; position = position; valid = valid; last = b .last; motion = b .motion }
+abbrev pub withPlace : Place → Blind → Blind
+withPlace place b =
+    record { params = b .params; flags = b .flags; place = place; last = b .last; motion = b .motion }
 
 abbrev pub withLast : Last → Blind → Blind
 withLast last b =
-    record { params = b .params; flags = b .flags; position = b .position; valid = b .valid; last = last; motion = b .motion }
+    record { params = b .params; flags = b .flags; place = b .place; last = last; motion = b .motion }
 
 abbrev pub withMotion : Motion → Blind → Blind
 withMotion motion b =
-    record { params = b .params; flags = b .flags; position = b .position; valid = b .valid; last = b .last; motion = motion }
+    record { params = b .params; flags = b .flags; place = b .place; last = b .last; motion = motion }
+
+abbrev pub noFlags : Flags
+noFlags = record { wind = false; rain = false; frost = false; forced = Forced.No }

@@ -1,46 +1,37 @@
 -- Document 01, "One millisecond".
 -- Assumes nothing.
-use Prim.Native.Nat.{ℕ, zero, suc, _+_, _-_, min}
-use mathlib.Core.Bool.{true, cond}
+use Prim.Native.Nat.{ℕ, zero, suc, _-_}
+use mathlib.Core.Bool.{cond}
 use lib.Dec.{eqb}
-use Rattle.blind.specs.declared.Params.{Params}
-use Rattle.blind.specs.declared.Direction.{Direction}
+use Rattle.heights.specs.declared.Direction.{Direction}
+use Rattle.heights.specs.Heights.{nextPlace, endOf}
 use Rattle.blind.specs.declared.Goal.{Goal}
 use Rattle.blind.specs.declared.Run.{Run}
 use Rattle.blind.specs.declared.Motion.{Motion}
 use Rattle.blind.specs.declared.Blind.{Blind}
-use Rattle.blind.specs.Fields.{withPosition, withMotion}
-use Rattle.blind.specs.Parameters.{bottom}
+use Rattle.blind.specs.Fields.{withPlace, withMotion}
 use Rattle.blind.specs.Orders.{started, motorOff}
-
--- "Down adds, up subtracts, kept within 0 to MUDT."
-abbrev pub beside : Direction → ℕ → ℕ → ℕ
-beside Direction.Up bottom position = position - 1
-beside Direction.Down bottom position = min (position + 1) bottom
 
 -- "The position moves by 1."
 unfoldable pub moved : Direction → Blind → Blind
-moved d b = withPosition (beside d (bottom (b .params)) (b .position)) (b .valid) b
-
-abbrev pub endOf : Direction → Params → ℕ
-endOf Direction.Up p = 0
-endOf Direction.Down p = bottom p
+moved d b = withPlace (nextPlace d (b .params) (b .place)) b
 
 -- "If it was a full run the position becomes 0 or MUDT and is valid."
 unfoldable pub arrived : Goal → Direction → Blind → Blind
-arrived Goal.Full d b = withPosition (endOf d (b .params)) true b
+arrived Goal.Full d b = withPlace (endOf d (b .params)) b
 arrived Goal.Step d b = b
 arrived Goal.Position d b = b
 
-unfoldable pub shortened : Run → Run
-shortened run = record { direction = run .direction; goal = run .goal; length = run .length - 1 }
+-- The run with k milliseconds of it gone.
+unfoldable pub shorter : ℕ → Run → Run
+shorter k run = record { direction = run .direction; goal = run .goal; length = run .length - k }
 
 -- "The length falls by 1. At length 0 the motor goes off and the rest time becomes RPT."
 unfoldable pub ran : Run → Blind → Blind
 ran run b =
-    cond (eqb (shortened run .length) 0)
+    cond (eqb (shorter 1 run .length) 0)
     (arrived (run .goal) (run .direction) (motorOff (moved (run .direction) b)))
-    (withMotion (Motion.Runs (shortened run)) (moved (run .direction) b))
+    (withMotion (Motion.Runs (shorter 1 run)) (moved (run .direction) b))
 
 -- "A rest time above 0 falls by 1, and if it becomes 0 a waiting order starts."
 unfoldable pub waited : ℕ → Run → Blind → Blind

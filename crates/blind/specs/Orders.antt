@@ -3,14 +3,14 @@
 use Prim.Native.Nat.{ℕ}
 use mathlib.Core.Bool.{Bool, true, false, cond, not, _&&_}
 use lib.Dec.{ltb}
-use Rattle.blind.specs.declared.Params.{Params}
-use Rattle.blind.specs.declared.Direction.{Direction}
+use Rattle.params.specs.declared.Params.{Params}
+use Rattle.heights.specs.declared.Direction.{Direction}
+use Rattle.heights.specs.Heights.{unknown}
 use Rattle.blind.specs.declared.Last.{Last}
-use Rattle.blind.specs.declared.Forced.{Forced}
 use Rattle.blind.specs.declared.Run.{Run}
 use Rattle.blind.specs.declared.Motion.{Motion}
 use Rattle.blind.specs.declared.Blind.{Blind}
-use Rattle.blind.specs.Fields.{withLast, withMotion}
+use Rattle.blind.specs.Fields.{withLast, withMotion, noFlags}
 
 -- The last direction once the motor has started in d.
 abbrev pub lastOf : Direction → Last
@@ -72,12 +72,4 @@ stopped b = stoppedAt (b .motion) b
 
 -- "A fresh blind has position 0, not valid, no flags, last direction "either" and rest time RPT."
 unfoldable pub freshOf : Params → Blind
-freshOf p =
-    record {
-      params = p;
-      flags = record { wind = false; rain = false; frost = false; forced = Forced.No };
-      position = 0;
-      valid = false;
-      last = Last.Either;
-      motion = Motion.Off (p .rpt);
-    }
+freshOf p = record { params = p; flags = noFlags; place = unknown; last = Last.Either; motion = Motion.Off (p .rpt) }

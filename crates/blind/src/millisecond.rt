@@ -1,13 +1,12 @@
 // Document 01, "One millisecond": what each millisecond does to a blind, and dt of them.
 use crate::Blind;
-use crate::Direction;
 use crate::Goal;
 use crate::Motion;
 use crate::Run;
+use heights::Direction;
 ghost use mathlib.Core.Path.{_≡_};
 ghost use Prim.Native.Nat.{_-_, min};
-ghost use Rattle.blind.specs.Millisecond.{beside, waited, moved, endOf, arrived, shortened, ran, millisecond, milliseconds};
-ghost use Rattle.blind.specs.Along.{along};
+ghost use Rattle.blind.specs.Millisecond.{shorter, waited, moved, arrived, ran, millisecond, milliseconds};
 
 impl Blind {
     pub fn millisecond(self) -> Blind
@@ -45,28 +44,31 @@ impl Blind {
         blind
     }
 
-    // Until its last millisecond a run changes the position and its length alone, so only these are worked on.
+    // Until its last millisecond a run changes the place and its length alone, so only these are worked on.
     fn run_on(self, run: Run, dt: u64) -> Blind
         requires { ⌜ self .motion ≡ Motion.Runs run ⌝ }
         ensures { λ r. ⌜ r ≡ milliseconds dt self ⌝ }
     {
         let direction = run.direction;
-        let bottom = self.params.bottom();
         let smooth = least(dt, less_one(run.length));
-        let position = along(direction, bottom, self.position, smooth);
+        let place = self.place.after(smooth, direction, self.params);
         let left = Run {
             length: run.length - smooth,
             ..run
         };
         let blind = Blind {
-            position,
+            place,
             motion: Motion::Runs(left),
             ..self
         };
-        blind.one_by_one(dt - smooth)
+        let rest = dt - smooth as u64;
+        if rest == 0 {
+            return blind;
+        }
+        blind.one_by_one(rest)
     }
 
-    fn wait(self, rest: u64, run: Run) -> Blind
+    fn wait(self, rest: u32, run: Run) -> Blind
         ensures { λ r. ⌜ r ≡ waited rest run self ⌝ }
     {
         let over = rest == 1;
@@ -101,9 +103,8 @@ impl Blind {
     fn moved(self, direction: Direction) -> Blind
         ensures { λ r. ⌜ r ≡ moved direction self ⌝ }
     {
-        let bottom = self.params.bottom();
-        let position = beside(direction, bottom, self.position);
-        Blind { position, ..self }
+        let place = self.place.next(direction, self.params);
+        Blind { place, ..self }
     }
 
     fn arrived(self, goal: Goal, direction: Direction) -> Blind
@@ -111,31 +112,18 @@ impl Blind {
     {
         match goal {
             Goal::Full => {
-                let position = self.end(direction);
-                Blind {
-                    position,
-                    valid: true,
-                    ..self
-                }
+                let place = heights::end(direction, self.params);
+                Blind { place, ..self }
             }
             Goal::Step => self,
             Goal::Position => self,
-        }
-    }
-
-    fn end(self, direction: Direction) -> u32
-        ensures { λ r. ⌜ r ≡ endOf direction (self .params) ⌝ }
-    {
-        match direction {
-            Direction::Up => 0,
-            Direction::Down => self.params.bottom(),
         }
     }
 }
 
 impl Run {
     fn shortened(self) -> Run
-        ensures { λ r. ⌜ r ≡ shortened self ⌝ }
+        ensures { λ r. ⌜ r ≡ shorter 1 self ⌝ }
     {
         Run {
             length: less_one(self.length),
@@ -144,40 +132,14 @@ impl Run {
     }
 }
 
-fn less_one(n: u64) -> u64
+fn less_one(n: u32) -> u32
     ensures { λ r. ⌜ r ≡ n - 1 ⌝ }
 {
     if n == 0 { 0 } else { n - 1 }
 }
 
-fn least(a: u64, b: u64) -> u64
-    ensures { λ r. ⌜ r ≡ min a b ⌝ }
+fn least(dt: u64, n: u32) -> u32
+    ensures { λ r. ⌜ r ≡ min dt n ⌝ }
 {
-    if a < b { a } else { b }
-}
-
-// The position after some milliseconds of running.
-fn along(direction: Direction, bottom: u32, position: u32, count: u64) -> u32
-    ensures { λ r. ⌜ r ≡ along count direction bottom position ⌝ }
-{
-    let mut at = position;
-    for _ in 0..count {
-        at = beside(direction, bottom, at);
-    }
-    at
-}
-
-fn beside(direction: Direction, bottom: u32, position: u32) -> u32
-    ensures { λ r. ⌜ r ≡ beside direction bottom position ⌝ }
-{
-    match direction {
-        Direction::Up => { if position == 0 { 0 } else { position - 1 } }
-        Direction::Down => {
-            if position < bottom {
-                position + 1
-            } else {
-                bottom
-            }
-        }
-    }
+    if dt < n as u64 { dt as u32 } else { n }
 }

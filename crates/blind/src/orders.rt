@@ -1,13 +1,14 @@
 // Document 01, "Orders": what an order and a stop do to a blind, and what the fresh blind is. Each
 // hands the new blind back.
 use crate::Blind;
-use crate::Direction;
 use crate::Flags;
 use crate::Forced;
 use crate::Last;
 use crate::Motion;
-use crate::Params;
 use crate::Run;
+use heights::Direction;
+use heights::Place;
+use params::Params;
 ghost use mathlib.Core.Path.{_≡_};
 ghost use mathlib.Core.Bool.{not, _&&_};
 ghost use lib.Dec.{ltb};
@@ -27,8 +28,7 @@ impl Blind {
                 frost: false,
                 forced: Forced::No,
             },
-            position: 0,
-            valid: false,
+            place: Place::UNKNOWN,
             last: Last::Either,
             motion: Motion::Off(pause),
         }
@@ -45,7 +45,7 @@ impl Blind {
         }
     }
 
-    fn order_off(self, rest: u64, run: Run) -> Blind
+    fn order_off(self, rest: u32, run: Run) -> Blind
         ensures { λ r. ⌜ r ≡ orderedOff rest run self ⌝ }
     {
         let last = self.last;
@@ -117,7 +117,7 @@ impl Blind {
     }
 }
 
-fn must_wait(rest: u64, run: Run, last: Last) -> bool
+fn must_wait(rest: u32, run: Run, last: Last) -> bool
     ensures { λ r. ⌜ r ≡ (ltb 0 rest && not (isLast (run .direction) last)) ⌝ }
 {
     if 0 < rest { !run.goes_on(last) } else { false }

@@ -1,125 +1,107 @@
--- A run to a position arrives: if nothing disturbs it, SAPBP v ends at floor(v · MUDT / 255), whatever the blind did before.
+-- A run to a position arrives: if nothing disturbs it, SAPBP v ends at its target, whatever the blind did before.
 -- Assumes nothing.
-use Prim.Native.Nat.{ℕ, _+_, _-_, _≤_, _<_, min}
-use native.Mathlib.Nat.{le-antisymm}
+use Prim.Native.Nat.{ℕ, _-_, _<_}
 use native.Mathlib.Omega.{arith}
 use mathlib.Core.Path.{_≡_, refl, sym, ap, _∙_, subst}
-use mathlib.Core.Bool.{Bool, true, false, cond, not, _&&_}
-use mathlib.Core.List.{List}
-use lib.Dec.{eqb, ltb}
-use borrow.Author.Tests.{ltb-true, ltb-false, ne-eqb}
+use mathlib.Core.Bool.{true, not, _&&_}
+use lib.Dec.{ltb}
+use borrow.Author.Tests.{ne-eqb}
 use Rattle.laws.proofs.Choices.{cond-has}
-use Rattle.blind.specs.declared.Params.{Params}
-use Rattle.blind.specs.declared.Direction.{Direction}
+use Rattle.params.specs.declared.Params.{Params}
+use Rattle.heights.specs.declared.Place.{Place}
+use Rattle.heights.specs.declared.Way.{Way}
+use Rattle.heights.specs.Heights.{withPosition, placeAfter, target, wayTo}
+use Rattle.heights.proofs.Numbers.{target-within}
+use Rattle.heights.proofs.Ways.{Leads, way-leads}
 use Rattle.blind.specs.declared.Goal.{Goal}
 use Rattle.blind.specs.declared.Run.{Run}
 use Rattle.blind.specs.declared.Motion.{Motion}
 use Rattle.blind.specs.declared.Blind.{Blind}
 use Rattle.blind.specs.Fields.{withLast}
-use Rattle.blind.specs.Parameters.{bottom}
 use Rattle.blind.specs.Orders.{lastOf, isLast, same, started, orderedOff, orderedRunning, orderedAt, ordered, motorOff, stoppedAt, stopped}
 use Rattle.blind.specs.Millisecond.{arrived, milliseconds}
-use Rattle.reading.specs.Sound.{Sound}
-use Rattle.rules.specs.declared.Aim.{Aim}
-use Rattle.rules.specs.declared.Command.{Command}
+use Rattle.blind.proofs.AtOnce.{movedBy}
+use Rattle.sound_blind.specs.Sound.{Sound}
+use Rattle.inputs.specs.declared.Command.{Command}
+use Rattle.inputs.specs.Inputs.{runTo, towards, aimedBetween, aimed, followed, sapbp, acted}
+use Rattle.duties.specs.Rulers.{dutyOf, isFree}
 use Rattle.rules.specs.declared.Input.{Input}
-use Rattle.rules.specs.Inputs.{target, towards, aimedBetween, aimed, followed, sapbp, acted}
-use Rattle.rules.specs.Rules.{dutyOf, isFree, commanded, heeded}
-use Rattle.conduct.specs.Courses.{Event, after, duration, Undisturbed, Engaged, waits, runs, untilEnd, Reaches}
-use Rattle.conduct.proofs.AtOnce.{besideBy, movedBy}
-use Rattle.conduct.proofs.Motions.{target-sound}
-use Rattle.conduct.proofs.Soundness.{heeded-sound}
+use Rattle.rules.specs.Rules.{commanded, heeded}
+use Rattle.conduct.specs.Courses.{Stands}
+use Rattle.conduct.specs.Ends.{Engaged, waits, runs, untilEnd, Reaches}
+use Rattle.conduct.proofs.Kept.{ordered-stands, stopped-stands}
+use Rattle.conduct.proofs.SoundCourses.{heeded-sound}
 use Rattle.conduct.proofs.Undisturbed.{undisturbed, seen}
 
--- ---- what an order leaves: its run is on, and the blind stands where it stood
+-- ---- an order's run is on
 
-record Taken (run : Run) (b b′ : Blind) : Type 0 where
-  on : Engaged run (b′ .motion)
-  params : b′ .params ≡ b .params
-  position : b′ .position ≡ b .position
-
-ordered-taken : (run : Run) (b : Blind) → Taken run b (ordered run b)
+ordered-on : (run : Run) (b : Blind) → Engaged run (ordered run b .motion)
 unfolding ordered orderedAt orderedOff orderedRunning started
-ordered-taken run b = go (b .motion)
+ordered-on run b = go (b .motion)
   where
-    off-taken : (rest : ℕ) → Taken run b (orderedOff rest run b)
-    off-taken rest =
-        cond-has (Taken run b) (ltb 0 rest && not (isLast (run .direction) (b .last))) _ _
-        (λ e. record { on = waits rest; params = refl; position = refl })
-        (λ e. record { on = runs; params = refl; position = refl })
+    On : Blind → Type 0
+    On b′ = Engaged run (b′ .motion)
 
-    go : (motion : Motion) → Taken run b (orderedAt motion run b)
-    go (Motion.Off rest) = off-taken rest
-    go (Motion.Waits rest waiting) = off-taken rest
-    go (Motion.Runs old) =
-        cond-has (Taken run b) (same (old .direction) (run .direction)) _ _
-        (λ e. record { on = runs; params = refl; position = refl })
-        (λ e. record { on = waits (b .params .rpt); params = refl; position = refl })
+    off-on : (rest : ℕ) → On (orderedOff rest run b)
+    off-on rest = cond-has On (ltb 0 rest && not (isLast (run .direction) (b .last))) _ _ (λ e. waits rest) (λ e. runs)
+
+    go : (motion : Motion) → On (orderedAt motion run b)
+    go (Motion.Off rest) = off-on rest
+    go (Motion.Waits rest waiting) = off-on rest
+    go (Motion.Runs old) = cond-has On (same (old .direction) (run .direction)) _ _ (λ e. runs) (λ e. waits (b .params .rpt))
 
 -- ---- where a blind comes to if nothing disturbs it
 
-order-reaches : (run : Run) (b : Blind) (position : ℕ) → Sound (ordered run b) → run .goal ≡ Goal.Position
-    → besideBy (run .length) (run .direction) (bottom (b .params)) (b .position) ≡ position → Reaches position (ordered run b)
-unfolding arrived motorOff movedBy
-order-reaches run b position s goal there course alone e =
-    let t : Taken run b (ordered run b) = ordered-taken run b in
+order-reaches : (run : Run) (b : Blind) (place : Place) → Sound (ordered run b) → run .goal ≡ Goal.Position
+    → placeAfter (run .length) (run .direction) (b .params) (b .place) ≡ place → Reaches place (ordered run b)
+unfolding arrived motorOff
+order-reaches run b place s goal there course alone e =
+    let t : Stands b (ordered run b) = ordered-stands run b in
     let b′ : Blind = ordered run b in
     let over : Blind = motorOff (movedBy (run .length) (run .direction) (withLast (lastOf (run .direction)) b′)) in
-    seen s alone run (t .on) (λ (x : Blind). x .position) (λ f x. refl) e
-    ∙ ap (λ (g : Goal). arrived g (run .direction) over .position) goal
-    ∙ ap (λ (p : Params). besideBy (run .length) (run .direction) (bottom p) (b′ .position)) (t .params)
-    ∙ ap (λ (n : ℕ). besideBy (run .length) (run .direction) (bottom (b .params)) n) (t .position)
+    seen s alone run (ordered-on run b) (λ (x : Blind). x .place) (λ f x. refl) e
+    ∙ ap (λ (g : Goal). arrived g (run .direction) over .place) goal
+    ∙ ap (λ (p : Params). placeAfter (run .length) (run .direction) p (b′ .place)) (t .params)
+    ∙ ap (placeAfter (run .length) (run .direction) (b .params)) (t .place)
     ∙ there
 
-stop-reaches : (b : Blind) → Reaches (b .position) (stopped b)
+stop-reaches : (b : Blind) → Reaches (b .place) (stopped b)
 unfolding stopped stoppedAt motorOff milliseconds
 stop-reaches b course alone e =
-    ap (λ (x : Blind). x .position) (undisturbed alone)
-    ∙ ap (λ (k : ℕ). milliseconds k (stopped b) .position) (e ∙ go (b .motion) refl)
-    ∙ stays (b .motion)
+    ap (λ (x : Blind). x .place) (undisturbed alone)
+    ∙ ap (λ (k : ℕ). milliseconds k (stopped b) .place) (e ∙ go (b .motion) refl)
+    ∙ stopped-stands b .place
   where
     go : (motion : Motion) → b .motion ≡ motion → untilEnd (stoppedAt motion b .motion) ≡ 0
     go (Motion.Off rest) m = ap untilEnd m
     go (Motion.Waits rest run) m = refl
     go (Motion.Runs run) m = refl
 
-    stays : (motion : Motion) → stoppedAt motion b .position ≡ b .position
-    stays (Motion.Off rest) = refl
-    stays (Motion.Waits rest run) = refl
-    stays (Motion.Runs run) = refl
+-- a way that leads to a target is a run that ends there, or none
+towards-reaches : (far : ℕ) (way : Way) (b : Blind) → Leads (b .params) far (b .place) way → Sound (towards way b)
+    → Reaches (withPosition far (b .place)) (towards way b)
+unfolding towards
+towards-reaches far Way.Met b l s = subst (λ (n : ℕ). Reaches (withPosition n (b .place)) (stopped b)) l (stop-reaches b)
+towards-reaches far (Way.Go d n) b l s = order-reaches (runTo d n) b _ s refl (l .1 .1)
 
 -- ---- SAPBP
 
-module _ (v : ℕ) (b : Blind) (above : 0 < v) (below : v < 255) (free : isFree (dutyOf b) ≡ true) (known : b .valid ≡ true) where
-  asked : heeded (Input.Command (Command.Position v)) b ≡ followed (towards (target v (b .params)) (b .position)) b
-  unfolding heeded commanded acted sapbp aimed aimedBetween
+module _ (v : ℕ) (b : Blind) (above : 0 < v) (below : v < 255) (free : isFree (dutyOf b) ≡ true) (known : b .place .valid ≡ true) where
+  way : Way
+  way = wayTo (b .params) (target v (b .params)) (b .place)
+
+  asked : heeded (Input.Command (Command.Position v)) b ≡ towards way b
+  unfolding heeded commanded acted sapbp aimed aimedBetween followed way
   asked =
       rw (free, ne-eqb v 0 (λ e. omega arith), ne-eqb v 255 (λ e. omega arith), known)
 
-  follows : Sound (followed (towards (target v (b .params)) (b .position)) b)
-      → Reaches (target v (b .params)) (followed (towards (target v (b .params)) (b .position)) b)
-  unfolding towards followed
-  follows s =
-      cond-has (λ (aim : Aim). Sound (followed aim b) → Reaches (target v (b .params)) (followed aim b))
-      (ltb (b .position) (target v (b .params))) _ _
-      (λ e s′.
-      let further : b .position < target v (b .params) = ltb-true _ _ e in
-      let lowest : target v (b .params) ≤ bottom (b .params) = target-sound v (b .params) (omega arith) in
-      order-reaches _ b _ s′ refl (omega arith))
-      (λ e.
-      let no-further : target v (b .params) ≤ b .position = ltb-false _ _ e in
-      cond-has (λ (aim : Aim). Sound (followed aim b) → Reaches (target v (b .params)) (followed aim b))
-      (ltb (target v (b .params)) (b .position)) _ _
-      (λ f s′.
-      let higher : target v (b .params) < b .position = ltb-true _ _ f in
-      order-reaches _ b _ s′ refl (omega arith))
-      (λ f s′.
-      let no-higher : b .position ≤ target v (b .params) = ltb-false _ _ f in
-      subst (λ (n : ℕ). Reaches n (stopped b)) (le-antisymm no-higher no-further) (stop-reaches b)))
-      s
-
   -- A run to v that is not disturbed ends at floor(v · MUDT / 255).
-  pub run-to-ends : Sound b → Reaches (target v (b .params)) (heeded (Input.Command (Command.Position v)) b)
+  pub run-to-ends : Sound b → Reaches (withPosition (target v (b .params)) (b .place)) (heeded (Input.Command (Command.Position v)) b)
+  unfolding way
   run-to-ends s =
-      let sound-after : Sound (heeded (Input.Command (Command.Position v)) b) = heeded-sound (Input.Command (Command.Position v)) b (omega arith) s in
-      subst (Reaches (target v (b .params))) (sym asked) (follows (subst Sound asked sound-after))
+      let command : Input = Input.Command (Command.Position v) in
+      let sound-after : Sound (heeded command b) = heeded-sound command b (omega arith) s in
+      let leads : Leads (b .params) (target v (b .params)) (b .place) way =
+      way-leads (b .params) (target v (b .params)) (b .place) (target-within v (b .params) (omega arith)) (s .position) in
+      subst (Reaches (withPosition (target v (b .params)) (b .place))) (sym asked)
+      (towards-reaches _ way b leads (subst Sound asked sound-after))

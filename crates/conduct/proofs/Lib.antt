@@ -1,7 +1,9 @@
-pub mod AtOnce
-pub mod Motions
-pub mod Soundness
-pub mod Duties
+pub mod Ruling
+pub mod Idle
+pub mod Kept
+pub mod SoundMotions
+pub mod SoundInputs
+pub mod SoundCourses
 pub mod Owed
 pub mod Pause
 pub mod Undisturbed

@@ -10,26 +10,27 @@ use lib.ListN.{length}
 use lib.Dec.{eqb, ltb}
 use borrow.Author.Tests.{ltb-false, eqb-true}
 use Rattle.laws.proofs.Choices.{cond-has, never-both}
-use Rattle.blind.specs.declared.Direction.{Direction}
+use Rattle.heights.specs.declared.Direction.{Direction}
+use Rattle.heights.specs.declared.Way.{Way}
 use Rattle.blind.specs.declared.Last.{Last}
 use Rattle.blind.specs.declared.Goal.{Goal}
-use Rattle.blind.specs.declared.Flags.{Flags}
 use Rattle.blind.specs.declared.Run.{Run}
 use Rattle.blind.specs.declared.Motion.{Motion}
 use Rattle.blind.specs.declared.Blind.{Blind}
 use Rattle.blind.specs.Fields.{withFlags, withMotion}
 use Rattle.blind.specs.Orders.{lastOf, isLast, same, started, orderedOff, orderedRunning, orderedAt, ordered, motorOff, stoppedAt, stopped}
-use Rattle.blind.specs.Millisecond.{moved, arrived, shortened, ran, waited, millisecondAt, millisecond}
-use Rattle.reading.specs.Reports.{command, motorAt, motorOf}
-use Rattle.reading.specs.Sound.{SoundMotion, SoundRunning, Sound}
-use Rattle.rules.specs.declared.Duty.{Duty}
-use Rattle.rules.specs.declared.Aim.{Aim}
-use Rattle.rules.specs.declared.Command.{Command}
+use Rattle.blind.specs.Millisecond.{moved, arrived, shorter, ran, waited, millisecondAt, millisecond}
+use Rattle.outputs.specs.Reports.{command, motorAt, motorOf}
+use Rattle.sound_blind.specs.Sound.{SoundMotion, SoundRunning, Sound}
+use Rattle.inputs.specs.declared.Aim.{Aim}
+use Rattle.inputs.specs.declared.Command.{Command}
+use Rattle.inputs.specs.Inputs.{mud, steps, ssud, towards, aimed, followed, sapbp, acted}
+use Rattle.duties.specs.Rulers.{dutyOf, sameDuty, isFree}
 use Rattle.rules.specs.declared.Input.{Input}
-use Rattle.rules.specs.Inputs.{mud, steps, ssud, aimed, followed, sapbp, acted}
-use Rattle.rules.specs.Rules.{dutyOf, sameDuty, obeyed, ruled, flagged, isFree, commanded, heeded}
-use Rattle.conduct.specs.Courses.{telegram, opposite}
-use Rattle.conduct.proofs.Motions.{flags-kept}
+use Rattle.rules.specs.Rules.{orderOf, ruled, withFlag, flagged, commanded, heeded}
+use Rattle.conduct.specs.Pauses.{opposite, off}
+use Rattle.conduct.proofs.SoundMotions.{flags-kept}
+use Rattle.conduct.proofs.Kept.{heeded-rest}
 
 abbrev pub owedAt : Direction → ℕ → Last → Motion → ℕ
 owedAt d pause last (Motion.Off rest) = cond (isLast d last) rest 0
@@ -115,82 +116,39 @@ stopped-owed d b s = go (b .motion) (s .motion) (le-refl _)
 
 -- ---- telegrams
 
+acted-owed : (d : Direction) (command : Command) (b : Blind) → Sound b → owed d b ≤ owed d (acted command b)
+unfolding acted mud ssud sapbp followed towards
+acted-owed d Command.Stop b s = stopped-owed d b s
+acted-owed d (Command.Move way) b s = ordered-owed d _ b s
+acted-owed d (Command.Step way) b s =
+    cond-has (λ (b′ : Blind). owed d b ≤ owed d b′) (steps (b .motion)) _ _ (λ e. ordered-owed d _ b s) (λ e. stopped-owed d b s)
+acted-owed d (Command.Position v) b s = go (aimed v b)
+  where
+    go : (aim : Aim) → owed d b ≤ owed d (followed aim b)
+    go Aim.Dropped = le-refl _
+    go (Aim.Full way) = ordered-owed d _ b s
+    go (Aim.To Way.Met) = stopped-owed d b s
+    go (Aim.To (Way.Go way n)) = ordered-owed d _ b s
+
+heeded-owed : (d : Direction) (input : Input) (b : Blind) → Sound b → owed d b ≤ owed d (heeded input b)
+unfolding heeded flagged ruled commanded
+heeded-owed d (Input.Set flag) b s =
+    let b′ : Blind = withFlags (withFlag flag (b .flags)) b in
+    cond-has (λ (after : Blind). owed d b ≤ owed d after) (sameDuty (dutyOf b) (dutyOf b′)) _ _
+    (λ e. le-refl _)
+    (λ e. acted-owed d (orderOf (dutyOf b′)) b′ (flags-kept (withFlag flag (b .flags)) b s))
+heeded-owed d (Input.Command command) b s =
+    cond-has (λ (b′ : Blind). owed d b ≤ owed d b′) (isFree (dutyOf b)) _ _ (λ e. acted-owed d command b s) (λ e. le-refl _)
+
 -- A telegram leaves the parameters, and forgives nothing that is owed.
 pub record Keeps (d : Direction) (b b′ : Blind) : Type 0 where
   pub params : b′ .params ≡ b .params
   pub owes : owed d b ≤ owed d b′
 
-same-keeps : (d : Direction) (b : Blind) → Keeps d b b
-same-keeps d b = record { params = refl; owes = le-refl _ }
-
-ordered-keeps : (d : Direction) (run : Run) (b : Blind) → Sound b → Keeps d b (ordered run b)
-unfolding ordered orderedAt orderedOff orderedRunning started
-ordered-keeps d run b s = record { params = go (b .motion); owes = ordered-owed d run b s }
-  where
-    Kept : Blind → Type 0
-    Kept b′ = b′ .params ≡ b .params
-
-    off-kept : (rest : ℕ) → Kept (orderedOff rest run b)
-    off-kept rest = cond-has Kept (ltb 0 rest && not (isLast (run .direction) (b .last))) _ _ (λ e. refl) (λ e. refl)
-
-    go : (motion : Motion) → Kept (orderedAt motion run b)
-    go (Motion.Off rest) = off-kept rest
-    go (Motion.Waits rest waiting) = off-kept rest
-    go (Motion.Runs old) = cond-has Kept (same (old .direction) (run .direction)) _ _ (λ e. refl) (λ e. refl)
-
-stopped-keeps : (d : Direction) (b : Blind) → Sound b → Keeps d b (stopped b)
-unfolding stopped stoppedAt motorOff
-stopped-keeps d b s = record { params = go (b .motion); owes = stopped-owed d b s }
-  where
-    go : (motion : Motion) → stoppedAt motion b .params ≡ b .params
-    go (Motion.Off rest) = refl
-    go (Motion.Waits rest waiting) = refl
-    go (Motion.Runs run) = refl
-
-acted-keeps : (d : Direction) (command : Command) (b : Blind) → Sound b → Keeps d b (acted command b)
-unfolding acted mud ssud sapbp followed
-acted-keeps d Command.Stop b s = stopped-keeps d b s
-acted-keeps d (Command.Move way) b s = ordered-keeps d _ b s
-acted-keeps d (Command.Step way) b s =
-    cond-has (Keeps d b) (steps (b .motion)) _ _ (λ e. ordered-keeps d _ b s) (λ e. stopped-keeps d b s)
-acted-keeps d (Command.Position v) b s = go (aimed v b)
-  where
-    go : (aim : Aim) → Keeps d b (followed aim b)
-    go Aim.Dropped = same-keeps d b
-    go Aim.Met = stopped-keeps d b s
-    go (Aim.Go run) = ordered-keeps d run b s
-
-obeyed-keeps : (d : Direction) (duty : Duty) (b : Blind) → Sound b → Keeps d b (obeyed duty b)
-unfolding obeyed mud
-obeyed-keeps d Duty.Free b s = stopped-keeps d b s
-obeyed-keeps d Duty.Up b s = ordered-keeps d _ b s
-obeyed-keeps d Duty.Down b s = ordered-keeps d _ b s
-obeyed-keeps d Duty.Hold b s = stopped-keeps d b s
-
--- flags are not looked at
-flagged-keeps : (d : Direction) (flags : Flags) (b : Blind) → Sound b → Keeps d b (flagged flags b)
-unfolding flagged ruled
-flagged-keeps d flags b s =
-    cond-has (Keeps d b) (sameDuty (dutyOf b) (dutyOf (withFlags flags b))) _ _
-    (λ e. record { params = refl; owes = le-refl _ })
-    (λ e.
-    let k : Keeps d (withFlags flags b) (obeyed (dutyOf (withFlags flags b)) (withFlags flags b)) =
-    obeyed-keeps d (dutyOf (withFlags flags b)) (withFlags flags b) (flags-kept flags b s) in
-    record { params = k .params; owes = k .owes })
-
 pub heeded-keeps : (d : Direction) (input : Input) (b : Blind) → Sound b → Keeps d b (heeded input b)
-unfolding heeded commanded
-heeded-keeps d (Input.Wind on) b s = flagged-keeps d _ b s
-heeded-keeps d (Input.Rain on) b s = flagged-keeps d _ b s
-heeded-keeps d (Input.Frost on) b s = flagged-keeps d _ b s
-heeded-keeps d (Input.Force forced) b s = flagged-keeps d _ b s
-heeded-keeps d (Input.Command command) b s =
-    cond-has (Keeps d b) (isFree (dutyOf b)) _ _ (λ e. acted-keeps d command b s) (λ e. same-keeps d b)
+heeded-keeps d input b s = record { params = heeded-rest input b .params; owes = heeded-owed d input b s }
 
 -- ---- one millisecond
-
-abbrev pub off : ℕ → ℕ
-off motor = cond (eqb motor 0) 1 0
 
 -- A millisecond leaves the parameters, and pays one if the motor is off.
 pub record Pays (d : Direction) (paid : ℕ) (b b′ : Blind) : Type 0 where
@@ -214,7 +172,7 @@ arrived-pays d paid b b′ Goal.Position way p = p
 -- while it runs nothing is paid, and nothing is lost
 running-pays : (d : Direction) (run : Run) (b : Blind) → SoundRunning (b .params) (b .last) run
     → Pays d (off (command (run .direction))) (withMotion (Motion.Runs run) b) (ran run b)
-unfolding ran shortened moved motorOff
+unfolding ran shorter moved motorOff
 running-pays d run b h =
     cond-has (Pays d (off (command (run .direction))) (withMotion (Motion.Runs run) b)) (eqb (run .length - 1) 0) _ _
     (λ e.

@@ -6,18 +6,18 @@ use native.Mathlib.Omega.{arith}
 use mathlib.Core.Path.{_≡_, ap, _∙_}
 use mathlib.Core.List.{List, [], _∷_, _++_}
 use lib.ListN.{length, getD, drop, length-append}
-use Rattle.blind.specs.declared.Params.{Params}
-use Rattle.blind.specs.declared.Direction.{Direction}
+use Rattle.params.specs.declared.Params.{Params}
+use Rattle.heights.specs.declared.Direction.{Direction}
 use Rattle.blind.specs.declared.Blind.{Blind}
 use Rattle.blind.specs.Millisecond.{millisecond}
-use Rattle.reading.specs.Reports.{command, motorOf}
-use Rattle.reading.specs.Sound.{Sound}
+use Rattle.outputs.specs.Reports.{command, motorOf}
+use Rattle.sound_blind.specs.Sound.{Sound}
 use Rattle.rules.specs.Rules.{heeded}
-use Rattle.conduct.specs.Courses.{Event, telegram, passes, motors, offs, opposite}
-use Rattle.conduct.specs.Pauses.{Pauses}
-use Rattle.conduct.proofs.Motions.{millisecond-sound}
-use Rattle.conduct.proofs.Soundness.{heeded-sound}
-use Rattle.conduct.proofs.Owed.{owed, off, heeded-keeps, millisecond-pays, running-against, running-along, off-while-running}
+use Rattle.conduct.specs.Courses.{Event, telegram, passes, motors}
+use Rattle.conduct.specs.Pauses.{opposite, off, offs, Pauses}
+use Rattle.conduct.proofs.SoundMotions.{millisecond-sound}
+use Rattle.conduct.proofs.SoundCourses.{heeded-sound}
+use Rattle.conduct.proofs.Owed.{owed, heeded-keeps, millisecond-pays, running-against, running-along, off-while-running}
 
 -- ---- over a course
 

@@ -2,16 +2,14 @@
 -- that are dropped or change no duty leave every field but the flags, and no millisecond looks at the flags: so an undisturbed
 -- course is its milliseconds at once.
 -- Assumes nothing.
-use Prim.Native.Nat.{ℕ, zero, suc, _+_, _-_, _*_, _/_, _≤_, _<_, min}
-use native.Mathlib.Nat.{le-trans}
+use Prim.Native.Nat.{ℕ, zero, suc, _-_, _<_}
 use native.Mathlib.Omega.{arith}
-use mathlib.Core.Path.{_≡_, refl, sym, ap, _∙_}
+use mathlib.Core.Path.{_≡_, refl, ap, _∙_}
 use mathlib.Core.Bool.{Bool, true, false, cond}
-use mathlib.Core.List.{List, [], _∷_}
-use lib.Dec.{eqb, ltb}
-use Rattle.laws.proofs.Choices.{cond-has, never-both}
-use Rattle.blind.specs.declared.Params.{Params}
-use Rattle.blind.specs.declared.Direction.{Direction}
+use mathlib.Core.List.{List}
+use lib.Dec.{eqb}
+use Rattle.heights.specs.declared.Direction.{Direction}
+use Rattle.heights.specs.Heights.{endOf}
 use Rattle.blind.specs.declared.Goal.{Goal}
 use Rattle.blind.specs.declared.Last.{Last}
 use Rattle.blind.specs.declared.Flags.{Flags}
@@ -19,16 +17,16 @@ use Rattle.blind.specs.declared.Run.{Run}
 use Rattle.blind.specs.declared.Motion.{Motion}
 use Rattle.blind.specs.declared.Blind.{Blind}
 use Rattle.blind.specs.Fields.{withFlags, withLast, withMotion}
-use Rattle.blind.specs.Parameters.{fullTime, bottom}
 use Rattle.blind.specs.Orders.{lastOf, started, motorOff}
-use Rattle.blind.specs.Millisecond.{moved, endOf, arrived, shortened, ran, waited, millisecondAt, millisecond, milliseconds}
-use Rattle.reading.specs.Sound.{SoundMotion, Sound}
-use Rattle.rules.specs.declared.Input.{Input}
-use Rattle.rules.specs.Rules.{heeded}
-use Rattle.conduct.specs.Courses.{Event, after, duration, flagsAfter, Undisturbed, ended, told, passed, Engaged, waits, runs, untilEnd, Ended}
+use Rattle.blind.specs.Millisecond.{moved, arrived, shorter, ran, waited, millisecondAt, millisecond, milliseconds}
 use Rattle.blind.proofs.Cutting.{one-first, cut}
-use Rattle.conduct.proofs.AtOnce.{waiting, wait-over, shorter, besideBy, movedBy, running, run-over}
-use Rattle.conduct.proofs.Duties.{idle-keeps}
+use Rattle.blind.proofs.AtOnce.{waiting, wait-over, movedBy, running, run-over}
+use Rattle.sound_blind.specs.Sound.{SoundMotion, Sound}
+use Rattle.rules.specs.Rules.{heeded}
+use Rattle.conduct.specs.Courses.{Event, after, duration}
+use Rattle.conduct.specs.Undisturbed.{flagsAfter, Undisturbed, ended, told, passed}
+use Rattle.conduct.specs.Ends.{Engaged, waits, runs, untilEnd, Ended}
+use Rattle.conduct.proofs.Idle.{idle-keeps}
 
 -- ---- no millisecond looks at the flags
 
@@ -43,16 +41,16 @@ arrived-flags flags Goal.Step d b = refl
 arrived-flags flags Goal.Position d b = refl
 
 millisecond-flags : (flags : Flags) (b : Blind) → millisecond (withFlags flags b) ≡ withFlags flags (millisecond b)
-unfolding millisecond millisecondAt waited started ran shortened moved motorOff
+unfolding millisecond millisecondAt waited started ran moved motorOff
 millisecond-flags flags b = go (b .motion)
   where
     go : (motion : Motion) → millisecondAt motion (withFlags flags b) ≡ withFlags flags (millisecondAt motion b)
     go (Motion.Off rest) = refl
     go (Motion.Waits rest run) = cond-flags flags (eqb rest 1) (started run b) _
     go (Motion.Runs run) =
-        ap (λ (x : Blind). cond (eqb (run .length - 1) 0) x (withMotion (Motion.Runs (shortened run)) (moved (run .direction) (withFlags flags b))))
+        ap (λ (x : Blind). cond (eqb (shorter 1 run .length) 0) x (withMotion (Motion.Runs (shorter 1 run)) (moved (run .direction) (withFlags flags b))))
         (arrived-flags flags (run .goal) (run .direction) (motorOff (moved (run .direction) b)))
-        ∙ cond-flags flags (eqb (run .length - 1) 0) _ _
+        ∙ cond-flags flags (eqb (shorter 1 run .length) 0) _ _
 
 pub milliseconds-flags : (k : ℕ) (flags : Flags) (b : Blind) → milliseconds k (withFlags flags b) ≡ withFlags flags (milliseconds k b)
 unfolding milliseconds
@@ -93,13 +91,12 @@ module _ {course : List Event} {b : Blind} (rest : ℕ) (run : Run) (waits-now :
 
 -- ---- a run goes on until its length is used up
 
-pub still-runs : {course : List Event} {b : Blind} (run : Run) → Sound b → b .motion ≡ Motion.Runs run → Undisturbed course b
+pub still-runs : {course : List Event} {b : Blind} (run : Run) → b .motion ≡ Motion.Runs run → Undisturbed course b
     → duration course < run .length → after course b .motion ≡ Motion.Runs (shorter (duration course) run)
-unfolding movedBy
-still-runs {course} {b} run s runs-now alone h =
+still-runs {course} {b} run runs-now alone h =
     ap (λ (x : Blind). x .motion) (undisturbed alone)
     ∙ ap (λ (m : Motion). milliseconds (duration course) (withMotion m b) .motion) runs-now
-    ∙ ap (λ (x : Blind). x .motion) (running (duration course) run b (s .position) h)
+    ∙ ap (λ (x : Blind). x .motion) (running (duration course) run b (omega arith))
 
 -- ---- a run that is on ends
 
@@ -126,7 +123,7 @@ pub ends : (run : Run) (b : Blind) → Sound b → Engaged run (b .motion)
     → milliseconds (untilEnd (b .motion)) b
     ≡ arrived (run .goal) (run .direction) (motorOff (movedBy (run .length) (run .direction) (withLast (lastOf (run .direction)) b)))
 unfolding started
-ends run b s on = from-start run b s on ∙ run-over run (withLast (lastOf (run .direction)) b) (s .position) (run-length run b s on)
+ends run b s on = from-start run b s on ∙ run-over run (withLast (lastOf (run .direction)) b) (run-length run b s on)
 
 module _ {course : List Event} {b : Blind} (s : Sound b) (alone : Undisturbed course b) (run : Run) (on : Engaged run (b .motion)) where
   pub seen : {A : Type 0} (field : Blind → A) → ((flags : Flags) (x : Blind) → field (withFlags flags x) ≡ field x)
@@ -142,11 +139,10 @@ module _ {course : List Event} {b : Blind} (s : Sound b) (alone : Undisturbed co
   -- A full run ends at its end, valid, after what is left of the pause and its whole length.
   pub full-run-ends : run .goal ≡ Goal.Full → duration course ≡ untilEnd (b .motion)
       → Ended (endOf (run .direction) (b .params)) b (after course b)
-  unfolding arrived motorOff movedBy
+  unfolding arrived motorOff
   full-run-ends full e =
       record {
-        there = at-end (λ x. x .position) (λ f x. refl);
-        known = at-end (λ x. x .valid) (λ f x. refl);
+        there = at-end (λ x. x .place) (λ f x. refl);
         rests = at-end (λ x. x .motion) (λ f x. refl);
       }
     where

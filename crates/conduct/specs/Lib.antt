@@ -1,3 +1,5 @@
-pub mod Courses
 pub mod Ruling
+pub mod Courses
 pub mod Pauses
+pub mod Undisturbed
+pub mod Ends

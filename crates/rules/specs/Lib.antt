@@ -1,4 +1,3 @@
-pub mod Inputs
 pub mod Rules
 pub mod Telegrams
 pub mod Edits

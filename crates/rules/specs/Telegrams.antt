@@ -3,9 +3,11 @@
 use Prim.Native.Nat.{ℕ}
 use mathlib.Core.Bool.{cond}
 use lib.Dec.{eqb}
-use Rattle.blind.specs.declared.Direction.{Direction}
+use Rattle.heights.specs.declared.Direction.{Direction}
 use Rattle.blind.specs.declared.Forced.{Forced}
-use Rattle.rules.specs.declared.Command.{Command}
+use Rattle.kinds.specs.Kinds.{wa, ra, fa, fo, mud, stop, ssud}
+use Rattle.inputs.specs.declared.Command.{Command}
+use Rattle.rules.specs.declared.Flag.{Flag}
 use Rattle.rules.specs.declared.Input.{Input}
 
 -- "MUD and SSUD: 0 up, 1 down."
@@ -16,19 +18,19 @@ directionOf value = cond (eqb value 0) Direction.Up Direction.Down
 abbrev pub forcedOf : ℕ → Forced
 forcedOf value = cond (eqb value 2) Forced.Up (cond (eqb value 3) Forced.Down Forced.No)
 
--- "4 MUD, 5 STOP, 6 SSUD; 7 SAPBP."
+-- What commands: MUD, STOP, SSUD, and SAPBP with its byte.
 unfoldable pub commandOf : ℕ → ℕ → Command
 commandOf kind value =
-    cond (eqb kind 4) (Command.Move (directionOf value))
-    (cond (eqb kind 5) Command.Stop
-    (cond (eqb kind 6) (Command.Step (directionOf value))
+    cond (eqb kind mud) (Command.Move (directionOf value))
+    (cond (eqb kind stop) Command.Stop
+    (cond (eqb kind ssud) (Command.Step (directionOf value))
     (Command.Position value)))
 
--- "0 WA, 1 RA, 2 FA; 3 FO"; the others command.
+-- What sets a flag: WA, RA, FA and FO. Every other kind commands.
 unfoldable pub inputOf : ℕ → ℕ → Input
 inputOf kind value =
-    cond (eqb kind 0) (Input.Wind (eqb value 1))
-    (cond (eqb kind 1) (Input.Rain (eqb value 1))
-    (cond (eqb kind 2) (Input.Frost (eqb value 1))
-    (cond (eqb kind 3) (Input.Force (forcedOf value))
+    cond (eqb kind wa) (Input.Set (Flag.Wind (eqb value 1)))
+    (cond (eqb kind ra) (Input.Set (Flag.Rain (eqb value 1)))
+    (cond (eqb kind fa) (Input.Set (Flag.Frost (eqb value 1)))
+    (cond (eqb kind fo) (Input.Set (Flag.Force (forcedOf value)))
     (Input.Command (commandOf kind value)))))

@@ -1,40 +1,89 @@
-// Who rules a blind, and what a telegram and a write of parameters do to it: the flags give the duty,
-// and only under the duty Free does a command reach the motor.
-pub mod duties;
-pub mod inputs;
+// Document 01, "Who rules a blind": what a telegram does to a blind. A new flag or new parameters may
+// change the duty, and a changed duty brings its order; a command reaches the motor only under the duty Free.
+pub mod edits;
 pub mod telegrams;
 
-use blind::Direction;
+use blind::Blind;
+use blind::Flags;
 use blind::Forced;
-use blind::Run;
+use duties::Duty;
+use duties::rulers::duty;
+use heights::Direction;
+use inputs::Command;
+use inputs::orders::act;
+ghost use mathlib.Core.Path.{_≡_};
+ghost use Rattle.rules.specs.Rules.{orderOf, ruled, withFlag, flagged, commanded, heeded};
 
-pub enum Duty {
-    Free,
-    Up,
-    Down,
-    Hold,
-}
-
-// Kinds 4 to 7: MUD, STOP, SSUD and SAPBP with its byte.
-pub enum Command {
-    Stop,
-    Move(Direction),
-    Step(Direction),
-    Position(u8),
-}
-
-// What a telegram says to a blind: kinds 0 to 3 set a flag, the others command.
-pub enum Input {
+// Kinds 0 to 3: one of the flags, and what it becomes.
+pub enum Flag {
     Wind(bool),
     Rain(bool),
     Frost(bool),
     Force(Forced),
+}
+
+// What a telegram says to a blind: kinds 0 to 3 set a flag, the others command.
+pub enum Input {
+    Set(Flag),
     Command(Command),
 }
 
-// What a byte for SAPBP asks of a blind.
-pub enum Aim {
-    Dropped,
-    Met,
-    Go(Run),
+pub fn heed(blind: Blind, input: Input) -> Blind
+    ensures { λ r. ⌜ r ≡ heeded input blind ⌝ }
+{
+    match input {
+        Input::Set(flag) => set(blind, flag),
+        Input::Command(command) => command_free(blind, command),
+    }
+}
+
+fn set(blind: Blind, flag: Flag) -> Blind
+    ensures { λ r. ⌜ r ≡ flagged flag blind ⌝ }
+{
+    let before = duty(blind);
+    let flags = with_flag(blind.flags, flag);
+    ruled(Blind { flags, ..blind }, before)
+}
+
+fn with_flag(flags: Flags, flag: Flag) -> Flags
+    ensures { λ r. ⌜ r ≡ withFlag flag flags ⌝ }
+{
+    match flag {
+        Flag::Wind(on) => Flags { wind: on, ..flags },
+        Flag::Rain(on) => Flags { rain: on, ..flags },
+        Flag::Frost(on) => Flags { frost: on, ..flags },
+        Flag::Force(forced) => Flags { forced, ..flags },
+    }
+}
+
+// A blind whose flags or parameters are new: only a duty that is another one now brings an order.
+pub(crate) fn ruled(blind: Blind, before: Duty) -> Blind
+    ensures { λ r. ⌜ r ≡ ruled before blind ⌝ }
+{
+    let now = duty(blind);
+    let unchanged = before.is(now);
+    if unchanged {
+        blind
+    } else {
+        act(blind, order_of(now))
+    }
+}
+
+fn order_of(duty: Duty) -> Command
+    ensures { λ r. ⌜ r ≡ orderOf duty ⌝ }
+{
+    match duty {
+        Duty::Free => Command::Stop,
+        Duty::Up => Command::Move(Direction::Up),
+        Duty::Down => Command::Move(Direction::Down),
+        Duty::Hold => Command::Stop,
+    }
+}
+
+// A command under another duty is dropped for good: nothing of it is kept.
+fn command_free(blind: Blind, command: Command) -> Blind
+    ensures { λ r. ⌜ r ≡ commanded command blind ⌝ }
+{
+    let free = duty(blind).is(Duty::Free);
+    if free { act(blind, command) } else { blind }
 }

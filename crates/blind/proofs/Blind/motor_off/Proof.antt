@@ -11,4 +11,4 @@ motor-off-spec =
     tie.close
     (tie.spec
     (λ c κs. search needs)
-    (λ c. simp (c .before .before .pause .ensures)))
+    (λ c. simp (c .before .before .before .pause .ensures)))

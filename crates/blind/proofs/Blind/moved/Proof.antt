@@ -1,4 +1,4 @@
--- `Blind::moved`: the new position is what `beside` and `bottom` promise.
+-- `Blind::moved`: the new place is what `next` promises.
 -- Assumes nothing.
 use borrow.Author.Needs.{needs}
 use Rattle.blind.specs.Millisecond.{moved}
@@ -11,5 +11,4 @@ moved-spec =
     tie.close
     (tie.spec
     (λ c κs. search needs)
-    (λ c κs. search needs)
-    (λ c. simp (c .before .before .beside .ensures, c .before .before .before .bottom .ensures)))
+    (λ c. simp (c .before .before .next .ensures)))

@@ -10,12 +10,7 @@ unfolding ordered orderedAt
 order-spec =
     tie.close
     (tie.spec
-    (λ c. search needs)
-    (λ c κs. search needs)
-    (λ c. search needs)
-    (λ c κs. search needs)
-    (λ c. search needs)
-    (λ c κs. search needs)
+    (λ c. search needs) (λ c κs. search needs) (λ c. search needs) (λ c κs. search needs) (λ c. search needs) (λ c κs. search needs)
     (λ c. simp (c .order-off .ensures, c .before .before .motion .given .1))
     (λ c. simp (c .order-off2 .ensures, c .before .before .motion2 .given .1))
     (λ c. simp (c .order-running .ensures, c .before .before .motion3 .given .1)))

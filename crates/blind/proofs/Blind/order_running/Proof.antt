@@ -10,7 +10,6 @@ unfolding orderedRunning
 order-running-spec =
     tie.close
     (tie.spec
-    (λ c κs. search needs)
-    (λ c κs. search needs)
-    (λ c. simp (c .before .before .if1 .taken, ← c .before .before .before .goes .ensures))
-    (λ c. simp (c .before .before .pause .ensures, c .before .before .before .if1 .left, ← c .before .before .before .before .goes .ensures)))
+    (λ c κs. search needs) (λ c κs. search needs)
+    (λ c. simp (c .before .before .before .if1 .taken, ← c .before .before .before .before .goes .ensures))
+    (λ c. simp (c .before .before .before .pause .ensures, c .before .before .before .before .if1 .left, ← c .before .before .before .before .before .goes .ensures)))

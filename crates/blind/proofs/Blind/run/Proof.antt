@@ -10,9 +10,6 @@ unfolding ran
 run-spec =
     tie.close
     (tie.spec
-    (λ c κs. search needs)
-    (λ c κs. search needs)
-    (λ c κs. search needs)
-    (λ c κs. search needs)
+    (λ c κs. search needs) (λ c κs. search needs) (λ c κs. search needs) (λ c κs. search needs)
     (λ c. simp (c .arrived .ensures, c .before .motor-off .ensures, c .before .before .if1 .taken, ← c .before .before .before .before .shortened .ensures, ← c .before .before .before .before .before .moved .ensures))
-    (λ c. simp (c .before .before .if1 .left, ← c .before .before .before .before .shortened .ensures, ← c .before .before .before .before .before .moved .ensures)))
+    (λ c. simp (c .before .before .before .if1 .left, ← c .before .before .before .before .before .shortened .ensures, ← c .before .before .before .before .before .before .moved .ensures)))

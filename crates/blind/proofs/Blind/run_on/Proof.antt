@@ -1,42 +1,56 @@
--- The milliseconds that change position and length alone, and then the others one by one, are all of them.
+-- The milliseconds that change place and length alone, and then the others one by one, are all of them.
 -- Assumes nothing.
-use Prim.Native.Nat.{ℕ, _-_, _≤_, min}
+use Prim.Native.Nat.{ℕ, _-_, min}
 use native.Mathlib.Omega.{arith}
-use mathlib.Core.Path.{_≡_, ap, _∙_}
+use mathlib.Core.Path.{_≡_, refl, sym, ap, _∙_}
 use borrow.Author.Needs.{needs}
+use Rattle.heights.specs.declared.Place.{Place}
+use Rattle.heights.specs.Heights.{placeAfter}
+use Rattle.blind.specs.declared.Run.{Run}
 use Rattle.blind.specs.declared.Motion.{Motion}
-use Rattle.blind.specs.Fields.{withPosition, withMotion}
-use Rattle.blind.specs.Millisecond.{milliseconds}
-use Rattle.blind.specs.Along.{along}
-use Rattle.blind.proofs.RunningOn.{shorter, then-one-by-one}
+use Rattle.blind.specs.declared.Blind.{Blind}
+use Rattle.blind.specs.Fields.{withPlace, withMotion}
+use Rattle.blind.specs.Millisecond.{shorter, milliseconds}
+use Rattle.blind.proofs.AtOnce.{running-on}
 use Rattle.blind.proofs.Blind.run_on.Statement.{statement}
 use Rattle.blind.proofs.Blind.run_on.Tie as tie
 
+-- what is worked on, and the rest of the time, are the whole time
+whole : (dt k less : ℕ) (run : Run) (b : Blind) (place : Place) → b .motion ≡ Motion.Runs run → k ≡ min dt less → less ≡ run .length - 1
+    → place ≡ placeAfter k (run .direction) (b .params) (b .place)
+    → milliseconds (dt - k) (withMotion (Motion.Runs (shorter k run)) (withPlace place b)) ≡ milliseconds dt b
+whole dt k less run b place runs most one-less there =
+    ap (λ (x : Place). milliseconds (dt - k) (withMotion (Motion.Runs (shorter k run)) (withPlace x b))) there
+    ∙ running-on dt k run b (omega arith) (omega arith)
+    ∙ ap (λ (m : Motion). milliseconds dt (withMotion m b)) (sym runs)
+
+none-left : (n : ℕ) (b : Blind) → n ≡ 0 → b ≡ milliseconds n b
+unfolding milliseconds
+none-left n b e = ap (λ (m : ℕ). milliseconds m b) (sym e)
+
 returns : tie.Need-returns
+unfolding shorter
 returns c =
     let moved = c .before .before .before .before in
-    let smooth = moved .before in
-    let low = smooth .before .before in
-    let a = low .before .args in
-    let k = smooth .least .result in
-    let most : k ≡ min (a .dt) (smooth .before .less-one .result) = smooth .least .ensures in
-    let less : smooth .before .less-one .result ≡ a .run .length - 1 = smooth .before .less-one .ensures in
-    let within : k ≤ a .run .length - 1 = omega (arith, most, less) in
-    let short : k ≤ a .dt = omega (arith, most) in
+    let first = moved .before .before .before in
+    none-left _ _ (c .if1 .taken)
+    ∙ whole (first .args .dt) _ _ (first .args .run) (first .args .self) _ (first .pre) (moved .before .least .ensures)
+    (moved .before .before .less-one .ensures) (moved .after .ensures)
+
+returns-2 : tie.Need-returns-2
+unfolding shorter
+returns-2 c =
+    let moved = c .before .before .before .before .before in
+    let first = moved .before .before .before in
     c .one-by-one .ensures
-    ∙ ap (λ (p : ℕ). milliseconds (a .dt - k) (withMotion (Motion.Runs (shorter k (a .run))) (withPosition p (a .self .valid) (a .self))))
-    (moved .along .ensures ∙ ap (λ (n : ℕ). along k (a .run .direction) n (a .self .position)) (low .bottom .ensures))
-    ∙ then-one-by-one (a .dt) k (a .run) (a .self) (low .before .pre) within short
+    ∙ whole (first .args .dt) _ _ (first .args .run) (first .args .self) _ (first .pre) (moved .before .least .ensures)
+    (moved .before .before .less-one .ensures) (moved .after .ensures)
 
 pub run-on-spec : {M : Type 1} → statement M
 run-on-spec =
     tie.close
     (tie.spec
+    (λ c κs. search needs) (λ c κs. search needs) (λ c κs. search needs) (λ c. search needs) (λ c. search needs) (λ c. search needs)
+    returns
     (λ c κs. search needs)
-    (λ c κs. search needs)
-    (λ c κs. search needs)
-    (λ c κs. search needs)
-    (λ c. search needs)
-    (λ c. search needs)
-    (λ c κs. search needs)
-    returns)
+    returns-2)

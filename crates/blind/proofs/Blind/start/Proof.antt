@@ -11,4 +11,4 @@ start-spec =
     tie.close
     (tie.spec
     (λ c κs. search needs)
-    (λ c. simp (c .before .before .last .ensures)))
+    (λ c. simp (c .before .before .before .last .ensures)))

@@ -10,7 +10,6 @@ unfolding waited
 wait-spec =
     tie.close
     (tie.spec
-    (λ c κs. search needs)
-    (λ c κs. search needs)
+    (λ c κs. search needs) (λ c κs. search needs)
     (λ c. simp (c .start .ensures, c .before .if1 .taken))
-    (λ c. simp (c .before .before .less-one .ensures, c .before .before .before .if1 .left)))
+    (λ c. simp (c .before .before .before .less-one .ensures, c .before .before .before .before .if1 .left)))

@@ -11,8 +11,7 @@ unfolding commandOf
 command-of-spec =
     tie.close
     (tie.spec
-    (λ c κs. search needs)
-    (λ c κs. search needs)
+    (λ c κs. search needs) (λ c κs. search needs)
     (λ c. simp (c .direction-of .ensures, c .before .match .keys1))
     (λ c. simp (c .match .keys2))
     (λ c. simp (c .direction-of2 .ensures, c .before .match .keys3))

@@ -1,0 +1,24 @@
+// Document 01, "Edits", for one blind: what the new parameters leave of it, and then who rules it.
+use crate::ruled;
+use blind::Blind;
+use blind::Motion;
+use duties::rulers::duty;
+use heights::Place;
+use params::Params;
+ghost use mathlib.Core.Path.{_≡_};
+ghost use Rattle.rules.specs.Edits.{rewritten};
+
+pub fn rewrite(blind: Blind, params: Params) -> Blind
+    ensures { λ r. ⌜ r ≡ rewritten params blind ⌝ }
+{
+    let before = duty(blind);
+    ruled(
+        Blind {
+            params,
+            place: Place::UNKNOWN,
+            motion: Motion::Off(params.rpt),
+            ..blind
+        },
+        before,
+    )
+}
