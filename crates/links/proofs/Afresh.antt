@@ -1,5 +1,5 @@
 -- Afresh: the links of a sound table, added in any order to the empty table by the call, are all accepted and give that table.
--- Links that differ may come in either order, and links that ascend come one behind the other. Assumes nothing.
+-- Links that differ may come in either order, and links that ascend come one after the other. Assumes nothing.
 use Prim.Native.Nat.{ℕ, suc, _≤_, _<_}
 use native.Mathlib.Omega.{arith}
 use mathlib.Core.Path.{_≡_, refl, sym, ap, _∙_, subst}
@@ -8,17 +8,20 @@ use mathlib.Core.List.{List, [], _∷_, _++_, List·Permᴰ, List·Permᴰ·nil,
 use lib.ListN.{length, length-append}
 use lib.Seq.{append-snoc}
 use Rattle.answers.specs.Answers.{Outcome}
-use Rattle.links.specs.declared.link.Link.{Link}
-use Rattle.links.specs.Links.{keyOf, Held, holding}
+use Rattle.link.specs.declared.Link.{Link}
+use Rattle.link.specs.Link.{keyOf}
+use Rattle.links.specs.Links.{Held, holding}
 use Rattle.links.specs.Sound.{most, isSound}
-use Rattle.links.specs.Edits.{isIn, inserted, deleted, moved, dropped, added, removed, tagRemoved, addedAll, AllAccepted}
-use Rattle.links.proofs.Each.{Each, first, rest, Pairs, each-map, each-right, each-perm, pairs-before, pairs-both, pairs-map, pairs-perm, pairs-right}
+use Rattle.links.specs.Edits.{isIn, inserted, moved, addLinks, added, removeLinks, removed, tagLinks, tagRemoved}
+use Rattle.links.specs.Afresh.{addedAll, AllAccepted, Afresh}
+use Rattle.laws.proofs.Each.{Each, first, rest, Pairs, each-map, each-right, each-perm, pairs-before, pairs-both, pairs-map, pairs-perm, pairs-right}
 use Rattle.links.proofs.Order.{Asc, is-in-none, inserted-perm, inserted-length, inserted-asc, inserted-swap, inserted-last}
-use Rattle.links.proofs.Keys.{InRange, range-holds}
-use Rattle.links.proofs.Sound.{Fine, Agree, sound-reads, sound-holds}
+use Rattle.link.proofs.Ranges.{InRange, range-holds}
+use Rattle.links.proofs.Sound.{Fine, sound-reads, sound-holds}
+use Rattle.link.proofs.Neighbours.{Agree}
 use Rattle.links.proofs.Spans.{no-other-class}
 use Rattle.links.proofs.Calls.{judged-done, added-done}
-use Rattle.links.proofs.Editing.{add-leaves, remove-leaves, tag-leaves}
+use Rattle.links.proofs.Leaves.{add-leaves, remove-leaves, tag-leaves}
 
 -- two links that can stand in one table
 abbrev Apart : Link → Link → Type 0
@@ -51,7 +54,7 @@ any-order (List·Permᴰ·swap {a = a} {b = b} {a′ = a′} {b′ = b′} {l = 
     ∙ ap (λ (x : Link). insertedAll l (inserted keyOf b′ (inserted keyOf x acc))) two
 any-order (List·Permᴰ·trans p q) r acc = any-order p r acc ∙ any-order q (pairs-perm Apart apart-back p r) acc
 
--- links that ascend come one behind the other
+-- links that ascend come one after the other
 in-order : (ls acc : List Link) → Asc keyOf (acc ++ ls) → insertedAll ls acc ≡ acc ++ ls
 unfolding insertedAll
 in-order [] acc asc = sym (append-nil acc)
@@ -123,9 +126,6 @@ all-accepted (l ∷ order) acc r =
 -- ---- afresh
 
 -- adding the links of a sound table in any order to the empty table: each is accepted, and the table is the same
-abbrev pub Afresh : List Link → Held → Type 0
-Afresh order h = AllAccepted order (holding []) × (addedAll order (holding []) ≡ h)
-
 pub afresh : (ls order : List Link) → isSound (holding ls) ≡ true → List·Permᴰ order ls → Afresh order (holding ls)
 afresh ls order sound perm =
     let both : (length ls ≤ most) × Fine ls = sound-reads (holding ls) sound in
@@ -156,16 +156,16 @@ afresh ls order sound perm =
 module _ (h : Held) (full : length (h .links) ≡ h .count) (order : List Link) where
   pub add-afresh : (l : Link) → added l h .answer ≡ 0 → List·Permᴰ order (l ∷ h .links) → Afresh order (added l h .leaves)
   add-afresh l e perm =
-      let left : (isSound (added l h .leaves) ≡ true) × (added l h .leaves ≡ holding (inserted keyOf l (h .links))) = add-leaves h full l e in
+      let left : (isSound (added l h .leaves) ≡ true) × (added l h .leaves ≡ holding (addLinks l h)) = add-leaves h full l e in
       subst (Afresh order) (sym (left .1))
-      (afresh (inserted keyOf l (h .links)) order (sym (ap isSound (left .1)) ∙ left .0) (List·Permᴰ·trans perm (inserted-perm keyOf l (h .links))))
+      (afresh (addLinks l h) order (sym (ap isSound (left .1)) ∙ left .0) (List·Permᴰ·trans perm (inserted-perm keyOf l (h .links))))
 
-  pub remove-afresh : (l : Link) → removed l h .answer ≡ 0 → List·Permᴰ order (deleted keyOf l (h .links)) → Afresh order (removed l h .leaves)
+  pub remove-afresh : (l : Link) → removed l h .answer ≡ 0 → List·Permᴰ order (removeLinks l h) → Afresh order (removed l h .leaves)
   remove-afresh l e perm =
-      let left : (isSound (removed l h .leaves) ≡ true) × (removed l h .leaves ≡ holding (deleted keyOf l (h .links))) = remove-leaves h full l e in
-      subst (Afresh order) (sym (left .1)) (afresh (deleted keyOf l (h .links)) order (sym (ap isSound (left .1)) ∙ left .0) perm)
+      let left : (isSound (removed l h .leaves) ≡ true) × (removed l h .leaves ≡ holding (removeLinks l h)) = remove-leaves h full l e in
+      subst (Afresh order) (sym (left .1)) (afresh (removeLinks l h) order (sym (ap isSound (left .1)) ∙ left .0) perm)
 
-  pub tag-afresh : (tag : ℕ) → tagRemoved tag h .answer ≡ 0 → List·Permᴰ order (dropped tag (h .links)) → Afresh order (tagRemoved tag h .leaves)
+  pub tag-afresh : (tag : ℕ) → tagRemoved tag h .answer ≡ 0 → List·Permᴰ order (tagLinks tag h) → Afresh order (tagRemoved tag h .leaves)
   tag-afresh tag e perm =
-      let left : (isSound (tagRemoved tag h .leaves) ≡ true) × (tagRemoved tag h .leaves ≡ holding (dropped tag (h .links))) = tag-leaves h full tag e in
-      subst (Afresh order) (sym (left .1)) (afresh (dropped tag (h .links)) order (sym (ap isSound (left .1)) ∙ left .0) perm)
+      let left : (isSound (tagRemoved tag h .leaves) ≡ true) × (tagRemoved tag h .leaves ≡ holding (tagLinks tag h)) = tag-leaves h full tag e in
+      subst (Afresh order) (sym (left .1)) (afresh (tagLinks tag h) order (sym (ap isSound (left .1)) ∙ left .0) perm)

@@ -1,13 +1,12 @@
-pub mod Each
 pub mod Order
 pub mod Places
-pub mod Keys
 pub mod Sound
+pub mod Misfits
 pub mod Spans
 pub mod Stores
 pub mod Calls
-pub mod Sweep
-pub mod Editing
+pub mod Dropped
+pub mod Leaves
 pub mod Afresh
 pub mod Untouched
 pub mod Outcomes

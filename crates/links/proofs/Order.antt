@@ -11,16 +11,18 @@ use lib.ListN.{length, getD, take, drop}
 use lib.Seq.{drop-cons}
 use lib.Dec.{eqb, ltb, leb·suc-suc}
 use borrow.Author.Tests.{lt-ltb, le-ltb, ltb-true, eq-eqb, ne-eqb, eqb-true, eqb-false}
-use Rattle.links.specs.Links.{kept, rank}
-use Rattle.links.specs.Edits.{isIn, inserted, deleted}
-use Rattle.links.proofs.Each.{Each, none, more, first, rest, Pairs, pairs-drop, each-map, each-perm, kept-yes, kept-not, kept-all, kept-none, kept-length}
+use Rattle.laws.specs.Kept.{kept}
+use Rattle.links.specs.Links.{rank}
+use Rattle.links.specs.Edits.{isIn, inserted, others, deleted}
+use Rattle.laws.proofs.Each.{Each, none, more, first, rest, Pairs, pairs-drop, each-map, each-perm}
+use Rattle.laws.proofs.Kept.{kept-yes, kept-not, kept-all, kept-none, kept-length}
 
--- each element is below all behind it
+-- each element is below all after it
 abbrev pub Asc : {A : Type 0} → (A → ℕ) → List A → Type 0
 Asc key = Pairs (λ x y. key x < key y)
 
 module _ {A : Type 0} (key : A → ℕ) where
-  -- what stands behind an element is above whatever the element is not below
+  -- what stands after an element is above whatever the element is not below
   pub above-all : (k : ℕ) (x : A) (xs : List A) → Asc key (x ∷ xs) → k ≤ key x → Each (λ y. k ≤ key y) (x ∷ xs)
   above-all k x xs a h = more h (each-map (λ y i. omega arith) (a .0))
 
@@ -80,7 +82,7 @@ module _ {A : Type 0} (key : A → ℕ) where
       go true f g ih = absurd (true≢false g)
       go false f g ih = more (eqb-false (key x) (key a) f) (ih g)
 
-  -- it is there exactly if it stands behind all that are below it
+  -- it is there exactly if it stands after all that are below it
   pub is-in-at : (a : A) (xs : List A) (d : A) → Asc key xs
       → isIn key a xs ≡ ltb (rank key (key a) xs) (length xs) && eqb (key (getD xs (rank key (key a) xs) d)) (key a)
   unfolding isIn
@@ -100,7 +102,7 @@ module _ {A : Type 0} (key : A → ℕ) where
       go (yes h) ih = rw (low h, rank-below (key a) x xs h, leb·suc-suc (suc (rank key (key a) xs)) (length xs)) ih
       go (no h) ih = rw (rank-first (key a) x xs asc (omega arith), lt-ltb 0 (suc (length xs)) (omega arith)) (high h (eqb (key x) (key a)) refl)
 
-  -- where it is there, it stands behind all that are below it
+  -- where it is there, it stands after all that are below it
   pub in-found : (a : A) (xs : List A) (d : A) → Asc key xs → isIn key a xs ≡ true → (rank key (key a) xs < length xs) × (key (getD xs (rank key (key a) xs) d) ≡ key a)
   in-found a xs d asc e =
       let both = and-eq-true-iff (ltb (rank key (key a) xs) (length xs)) (eqb (key (getD xs (rank key (key a) xs) d)) (key a)) .0 (sym (is-in-at a xs d asc) ∙ e) in
@@ -127,7 +129,7 @@ module _ {A : Type 0} (key : A → ℕ) where
   unfolding inserted
   inserted-above a x xs h = rw (le-ltb (key x) (key a) h)
 
-  -- it goes behind all that are below it
+  -- it goes after all that are below it
   pub inserted-at : (a : A) (xs : List A) → Asc key xs
       → inserted key a xs ≡ take (rank key (key a) xs) xs ++ a ∷ drop (rank key (key a) xs) xs
   unfolding inserted
@@ -209,11 +211,8 @@ module _ {A : Type 0} (key : A → ℕ) where
 
   -- ---- an element that goes
 
-  -- the test that all but one element pass
-  abbrev pub others : A → A → Bool
-  others a y = not (eqb (key y) (key a))
-
-  pub others-pass : (a y : A) → (key y ≡ key a → ⊥) → others a y ≡ true
+  -- an element with another key is another one
+  pub others-pass : (a y : A) → (key y ≡ key a → ⊥) → others key a y ≡ true
   others-pass a y n = ap not (ne-eqb (key y) (key a) n)
 
   pub deleted-at : (a : A) (xs : List A) (d : A) → Asc key xs → rank key (key a) xs < length xs → key (getD xs (rank key (key a) xs) d) ≡ key a
@@ -226,8 +225,8 @@ module _ {A : Type 0} (key : A → ℕ) where
           → (rank key (key a) xs < length xs → key (getD xs (rank key (key a) xs) d) ≡ key a
           → deleted key a xs ≡ take (rank key (key a) xs) xs ++ drop (suc (rank key (key a) xs)) xs)
           → rank key (key a) (x ∷ xs) < suc (length xs) → key (getD (x ∷ xs) (rank key (key a) (x ∷ xs)) d) ≡ key a
-          → kept (others a) (x ∷ xs) ≡ take (rank key (key a) (x ∷ xs)) (x ∷ xs) ++ drop (suc (rank key (key a) (x ∷ xs))) (x ∷ xs)
-      go (yes i) ih = rw (rank-below (key a) x xs i, kept-yes (others a) x xs (others-pass a x (λ f. omega arith))) (λ h′ e′. ap (λ (l : List A). x ∷ l) (ih (omega arith) e′))
+          → kept (others key a) (x ∷ xs) ≡ take (rank key (key a) (x ∷ xs)) (x ∷ xs) ++ drop (suc (rank key (key a) (x ∷ xs))) (x ∷ xs)
+      go (yes i) ih = rw (rank-below (key a) x xs i, kept-yes (others key a) x xs (others-pass a x (λ f. omega arith))) (λ h′ e′. ap (λ (l : List A). x ∷ l) (ih (omega arith) e′))
       go (no i) ih =
           rw (rank-first (key a) x xs asc (omega arith))
-          (λ h′ e′. kept-not (others a) x xs (ap not (eq-eqb (key x) (key a) e′)) ∙ kept-all (others a) xs (each-map (λ y j. others-pass a y (λ f. omega arith)) (asc .0)))
+          (λ h′ e′. kept-not (others key a) x xs (ap not (eq-eqb (key x) (key a) e′)) ∙ kept-all (others key a) xs (each-map (λ y j. others-pass a y (λ f. omega arith)) (asc .0)))

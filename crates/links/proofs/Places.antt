@@ -1,5 +1,5 @@
--- How many elements stand at another place than before, for the two ways in which a list that ascends is edited: behind the place of
--- a new element all have moved, and behind the first that goes all that stay. Assumes nothing.
+-- How many elements stand at another place than before, for the two ways in which a list that ascends is edited: after the place of
+-- a new element all have moved, and after the first that goes all that stay. Assumes nothing.
 use Prim.Native.Nat.{ℕ, suc, _+_, _<_}
 use native.Mathlib.Omega.{arith}
 use native.Mathlib.Decide.{decLt}
@@ -9,10 +9,12 @@ use mathlib.Core.List.{List, [], _∷_, tail, Permᴰ·symm}
 use lib.ListN.{length, getD}
 use lib.Dec.{eqb}
 use borrow.Author.Tests.{eq-eqb, ne-eqb}
-use Rattle.links.specs.Links.{kept, rank}
-use Rattle.links.specs.Edits.{isIn, inserted, deleted, isFirst, movedAmong, moved}
-use Rattle.links.proofs.Each.{Each, none, more, first, rest, each-map, each-both, each-kept, each-perm}
-use Rattle.links.proofs.Order.{Asc, rank-below, rank-none, rank-first, is-in-none, not-in, inserted-below, inserted-above, inserted-perm, others, others-pass}
+use Rattle.laws.specs.Kept.{kept}
+use Rattle.links.specs.Links.{rank}
+use Rattle.links.specs.Edits.{isIn, inserted, deleted, isFirst, movedAmong, moved, others}
+use Rattle.laws.proofs.Each.{Each, none, more, first, rest, each-map, each-both, each-perm}
+use Rattle.laws.proofs.Kept.{each-kept}
+use Rattle.links.proofs.Order.{Asc, rank-below, rank-none, rank-first, is-in-none, not-in, inserted-below, inserted-above, inserted-perm, others-pass}
 
 -- of a walk that keeps what passes a test: how many pass once one has not passed (`gone`)
 unfoldable pub shifted : {A : Type 0} → (A → Bool) → Bool → List A → ℕ
@@ -90,7 +92,7 @@ module _ {A : Type 0} (key : A → ℕ) where
           )
           (omega arith)
 
-  -- with a new element at its place, all that stood behind it have moved
+  -- with a new element at its place, all that stood after it have moved
   pub moved-inserted : (a : A) (xs : List A) → Asc key xs → isIn key a xs ≡ false
       → moved key xs (inserted key a xs) + rank key (key a) xs ≡ length xs
   unfolding moved
@@ -130,12 +132,12 @@ module _ {A : Type 0} (key : A → ℕ) where
   above-away x old (n ∷ new) ab = ne-eqb (key n) (key x) (λ e. omega (arith, ab .0))
 
   -- a list above the old one: what is still there has moved
-  behind : (p : A → Bool) (all old new : List A) → Each (λ x. isIn key x all ≡ p x) old → Above old new
+  all-shifted : (p : A → Bool) (all old new : List A) → Each (λ x. isIn key x all ≡ p x) old → Above old new
       → movedAmong key all old new ≡ shifted p true old
   unfolding movedAmong shifted
-  behind p all [] new there ab = refl
-  behind p all (x ∷ old) new there ab =
-      go (p x) refl (behind p all old (tail new) (rest there) (above-tail x old new ab))
+  all-shifted p all [] new there ab = refl
+  all-shifted p all (x ∷ old) new there ab =
+      go (p x) refl (all-shifted p all old (tail new) (rest there) (above-tail x old new ab))
     where
       go : (b : Bool) → p x ≡ b → movedAmong key all old (tail new) ≡ shifted p true old
           → movedAmong key all (x ∷ old) new ≡ cond b (1 + shifted p true old) (shifted p true old)
@@ -153,7 +155,7 @@ module _ {A : Type 0} (key : A → ℕ) where
       go true e ih = stood all x xs (kept p xs) ∙ omega arith
       go false e ih =
           went all x xs (kept p xs) (first there ∙ e)
-          ∙ behind p all xs (tail (kept p xs)) (rest there) (above-tail x xs (kept p xs) (above-kept p x xs asc))
+          ∙ all-shifted p all xs (tail (kept p xs)) (rest there) (above-tail x xs (kept p xs) (above-kept p x xs asc))
 
   -- what passes is still there, and nothing else
   in-kept : (p : A → Bool) (xs : List A) → Asc key xs → Each (λ x. isIn key x (kept p xs) ≡ p x) xs
@@ -169,7 +171,7 @@ module _ {A : Type 0} (key : A → ℕ) where
       go false e ih =
           more (is-in-none key x (kept p xs) (each-map (λ y h f. omega arith) (each-kept p xs (asc .0))) ∙ sym e) ih
 
-  -- with what does not pass gone, all that pass behind the first that does not have moved
+  -- with what does not pass gone, all that pass after the first that does not have moved
   pub moved-kept : (p : A → Bool) (xs : List A) → Asc key xs → moved key xs (kept p xs) ≡ shifted p false xs
   unfolding moved
   moved-kept p xs asc = kept-walk p (kept p xs) xs asc (in-kept p xs asc)
@@ -198,7 +200,7 @@ module _ {A : Type 0} (key : A → ℕ) where
           (λ h′ e′. rw (ap not (eq-eqb (key x) (key a) e′), shifted-all (others key a) xs (each-map (λ y j. others-pass key a y (λ f. omega arith)) (asc .0)))
           (omega arith))
 
-  -- with one element gone, all that stood behind it have moved
+  -- with one element gone, all that stood after it have moved
   pub moved-deleted : (a : A) (xs : List A) (d : A) → Asc key xs → rank key (key a) xs < length xs → key (getD xs (rank key (key a) xs) d) ≡ key a
       → moved key xs (deleted key a xs) + suc (rank key (key a) xs) ≡ length xs
   unfolding deleted

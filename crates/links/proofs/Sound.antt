@@ -1,27 +1,26 @@
 -- Soundness of links: the test of neighbours, the statement over any two links, and what edits need (`Fine`) agree.
 -- Between two links of one address all links have that address, so a class goes from neighbour to neighbour. Assumes nothing.
-use Prim.Native.Nat.{ℕ, _+_, _≤_, _<_}
-use native.Mathlib.Numerals.{add-one}
+use Prim.Native.Nat.{ℕ, _≤_, _<_}
 use native.Mathlib.Omega.{arith}
-use mathlib.Core.Path.{_≡_, refl, sym, ap, _∙_}
+use mathlib.Core.Path.{_≡_, refl, sym, _∙_}
 use mathlib.Core.Logic.{_↔_}
-use mathlib.Core.Bool.{Bool, true, false, not, _&&_, _||_, and-eq-true-iff}
+use mathlib.Core.Bool.{Bool, true, false, and-eq-true-iff}
 use mathlib.Core.List.{List, [], _∷_}
-use lib.ListN.{length, getD, drop, drop-of-length-le}
-use lib.Seq.{drop-cons}
-use lib.Dec.{eqb, ltb, leb}
-use borrow.Author.Tests.{leb-true, le-leb, lt-leb, ltb-true, lt-ltb, le-ltb, eqb-true, eq-eqb, ne-eqb}
-use Rattle.links.specs.declared.link.Link.{Link}
-use Rattle.links.specs.Links.{kept, inRange, keyOf, classOf, Held}
-use Rattle.links.specs.Sound.{most, nothing, Sound, mayFollow, inOrder, isSound}
+use lib.ListN.{length, getD}
+use lib.Dec.{leb}
+use borrow.Author.Tests.{leb-true, le-leb, lt-leb}
+use Rattle.link.specs.declared.Link.{Link}
+use Rattle.laws.specs.Kept.{kept}
+use Rattle.link.specs.Link.{keyOf, nothing, mayFollow}
+use Rattle.links.specs.Links.{Held}
+use Rattle.links.specs.Sound.{most, Sound, inOrder, isSound}
 use Rattle.links.specs.Edits.{isIn, inserted}
-use Rattle.links.proofs.Each.{Each, none, more, first, rest, Pairs, each-at, each-of, each-map, each-both, each-kept, each-perm, pairs-at, pairs-of, pairs-kept, pairs-perm}
+use Rattle.laws.proofs.Each.{Each, none, more, first, rest, Pairs, each-at, each-of, each-map, each-both, each-perm, pairs-at, pairs-of, pairs-perm}
+use Rattle.laws.proofs.Kept.{each-kept, pairs-kept}
 use Rattle.links.proofs.Order.{Asc, inserted-asc, inserted-perm}
-use Rattle.links.proofs.Keys.{InRange, range-reads, range-holds, before-key, key-before, key-address}
-
--- two links of one address have one class
-abbrev pub Agree : Link → Link → Type 0
-Agree a b = a .address ≡ b .address → classOf (a .kind) ≡ classOf (b .kind)
+use Rattle.link.proofs.Neighbours.{Agree, follow-reads, follow-holds}
+use Rattle.link.proofs.Ranges.{InRange, range-reads, range-holds}
+use Rattle.link.proofs.Keys.{before-key, key-before, key-address}
 
 -- links as a sound table has them
 pub record Fine (ls : List Link) : Type 0 where
@@ -31,27 +30,7 @@ pub record Fine (ls : List Link) : Type 0 where
 
 -- ---- the test
 
--- what a link that may follow another tells
-pub follow-reads : (last next : Link) → mayFollow last next ≡ true → InRange next × (keyOf last < keyOf next) × Agree last next
-unfolding mayFollow
-follow-reads last next e =
-    let abc : (inRange next && ltb (keyOf last) (keyOf next) ≡ true) × (not (eqb (next .address) (last .address)) || eqb (classOf (next .kind)) (classOf (last .kind)) ≡ true) =
-    and-eq-true-iff (inRange next && ltb (keyOf last) (keyOf next)) _ .0 e in
-    let ab : (inRange next ≡ true) × (ltb (keyOf last) (keyOf next) ≡ true) = and-eq-true-iff (inRange next) _ .0 (abc .0) in (
-      range-reads next (ab .0),
-      ltb-true (keyOf last) (keyOf next) (ab .1),
-      λ same. sym (eqb-true (classOf (next .kind)) (classOf (last .kind)) (rw (eq-eqb (next .address) (last .address) (sym same)) at (abc .1))),
-    )
-
-pub follow-holds : (last next : Link) → InRange next → keyOf last < keyOf next → Agree last next → mayFollow last next ≡ true
-unfolding mayFollow
-follow-holds last next r h agree = rw (range-holds next r, lt-ltb (keyOf last) (keyOf next) h) (go (eqb (next .address) (last .address)) refl)
-  where
-    go : (b : Bool) → eqb (next .address) (last .address) ≡ b → not b || eqb (classOf (next .kind)) (classOf (last .kind)) ≡ true
-    go true e = eq-eqb (classOf (next .kind)) (classOf (last .kind)) (sym (agree (sym (eqb-true (next .address) (last .address) e))))
-    go false e = refl
-
--- the neighbours are in order: then the links are fine, and stand so behind the last one
+-- the neighbours are in order: then the links are fine, and stand so after the last one
 order-reads : (last : Link) (ls : List Link) → inOrder last ls ≡ true → Each InRange ls × Asc keyOf (last ∷ ls) × Pairs Agree (last ∷ ls)
 unfolding inOrder
 order-reads last [] e = (none, (none, tt), (none, tt))
@@ -152,46 +131,6 @@ fine-inserted l ls f r new agree =
       ascends = inserted-asc keyOf l ls (f .ascends) new;
       agrees = pairs-perm Agree agree-back (inserted-perm keyOf l ls) (agree, f .agrees);
     }
-
--- ---- the test, case by case
-
-module _ (last next : Link) where
-  pub follow-range : inRange next ≡ false → mayFollow last next ≡ false
-  unfolding mayFollow
-  follow-range e = rw e
-
-  pub follow-key : inRange next ≡ true → keyOf next ≤ keyOf last → mayFollow last next ≡ false
-  unfolding mayFollow
-  follow-key e h = rw (e, le-ltb (keyOf last) (keyOf next) h)
-
-  pub follow-address : inRange next ≡ true → keyOf last < keyOf next → (next .address ≡ last .address → ⊥) → mayFollow last next ≡ true
-  unfolding mayFollow
-  follow-address e h n = rw (e, lt-ltb (keyOf last) (keyOf next) h, ne-eqb (next .address) (last .address) n)
-
-  pub follow-class : inRange next ≡ true → keyOf last < keyOf next → next .address ≡ last .address
-      → mayFollow last next ≡ eqb (classOf (next .kind)) (classOf (last .kind))
-  unfolding mayFollow
-  follow-class e h s = rw (e, lt-ltb (keyOf last) (keyOf next) h, eq-eqb (next .address) (last .address) s)
-
--- ---- the test, place by place
-
-module _ (last : Link) (ls : List Link) (i : ℕ) where
-  order-step : i < length ls → inOrder last (drop i ls) ≡ mayFollow last (getD ls i nothing) && inOrder (getD ls i nothing) (drop (i + 1) ls)
-  unfolding inOrder
-  order-step h =
-      ap (inOrder last) (drop-cons ls i nothing h)
-      ∙ ap (λ (n : ℕ). mayFollow last (getD ls i nothing) && inOrder (getD ls i nothing) (drop n ls)) (sym (add-one i))
-
-  pub order-more : {all : Bool} → i < length ls → mayFollow last (getD ls i nothing) ≡ true → inOrder last (drop i ls) ≡ all
-      → inOrder (getD ls i nothing) (drop (i + 1) ls) ≡ all
-  order-more {all} h fits e = sym (rw fits at (order-step h)) ∙ e
-
-  pub order-fails : {all : Bool} → i < length ls → mayFollow last (getD ls i nothing) ≡ false → inOrder last (drop i ls) ≡ all → all ≡ false
-  order-fails {all} h wrong e = sym e ∙ (rw wrong at (order-step h))
-
-  pub order-end : {all : Bool} → length ls ≤ i → inOrder last (drop i ls) ≡ all → all ≡ true
-  unfolding inOrder
-  order-end {all} h e = sym e ∙ ap (inOrder last) (drop-of-length-le ls h)
 
 -- too many links
 pub too-many : (h : Held) → most < h .count → isSound h ≡ false

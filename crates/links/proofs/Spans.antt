@@ -1,4 +1,4 @@
--- The links of an address: in a list whose addresses do not fall they stand together, behind those of all lower addresses.
+-- The links of an address: in a list whose addresses do not fall they stand together, after those of all lower addresses.
 -- First over any measure of the elements, by recursion on the list; then for links. Assumes nothing.
 use Prim.Native.Nat.{ℕ, suc, _+_, _*_, _≤_, _<_}
 use native.Mathlib.Omega.{arith}
@@ -9,17 +9,23 @@ use mathlib.Core.List.{List, [], _∷_}
 use lib.ListN.{length, getD, take, drop}
 use lib.Dec.{eqb, ltb, leb·suc-suc}
 use borrow.Author.Tests.{lt-ltb, le-ltb, eq-eqb, ne-eqb, eqb-true, eqb-false}
-use Rattle.links.specs.declared.link.Link.{Link}
-use Rattle.links.specs.Links.{kept, rank, keyOf, classOf, linksTo, startOf, addressClass}
-use Rattle.links.specs.Sound.{nothing}
+use Rattle.link.specs.declared.Link.{Link}
+use Rattle.laws.specs.Kept.{kept}
+use Rattle.links.specs.Links.{rank, linksTo, startOf, addressClass}
+use Rattle.link.specs.Link.{keyOf, nothing}
+use Rattle.kinds.specs.Kinds.{classOf}
 use Rattle.links.specs.Edits.{noLinkTo, otherClass}
-use Rattle.links.proofs.Each.{Each, none, more, first, rest, Pairs, each-map, kept-yes, kept-not, kept-none, kept-same}
+use Rattle.laws.proofs.Each.{Each, none, more, first, rest, Pairs, each-map}
+use Rattle.laws.proofs.Kept.{kept-yes, kept-not, kept-none, kept-same}
 use Rattle.links.proofs.Order.{Asc, rank-below, rank-none}
-use Rattle.links.proofs.Keys.{InRange, key-under, key-address, class-some}
-use Rattle.links.proofs.Sound.{Fine, Agree}
+use Rattle.link.proofs.Ranges.{InRange}
+use Rattle.link.proofs.Keys.{key-under, key-address}
+use Rattle.kinds.proofs.Classes.{class-some}
+use Rattle.links.proofs.Sound.{Fine}
+use Rattle.link.proofs.Neighbours.{Agree}
 
 module _ {A : Type 0} (f : A → ℕ) where
-  -- no element is above one behind it
+  -- no element is above one after it
   abbrev pub Up : List A → Type 0
   Up = Pairs (λ x y. f x ≤ f y)
 
@@ -36,7 +42,7 @@ module _ {A : Type 0} (f : A → ℕ) where
   up-first : (a : ℕ) (x : A) (xs : List A) → Up (x ∷ xs) → a ≤ f x → rank f a (x ∷ xs) ≡ 0
   up-first a x xs up h = rank-none f a (x ∷ xs) (more h (each-map (λ y i. omega arith) (up .0)))
 
-  -- the elements at a stand together, from the place behind all below a
+  -- the elements at a stand together, from the place after all below a
   pub span-at : (a : ℕ) (xs : List A) → Up xs → take (length (kept (At a) xs)) (drop (rank f a xs) xs) ≡ kept (At a) xs
   unfolding kept
   span-at a [] up = refl
@@ -81,21 +87,10 @@ unfolding startOf rank
 start-searched address ls r =
     ap length (kept-same (λ l. ltb (keyOf l) (address * 65536)) (λ l. ltb (l .address) address) ls (each-map (λ l s. key-under l address s) r))
 
--- the search by the first key of the next address finds where the address ends
-pub end-searched : (address : ℕ) (ls : List Link) → Each InRange ls
-    → rank keyOf ((address + 1) * 65536) ls ≡ startOf address ls + length (linksTo address ls)
-unfolding startOf linksTo
-end-searched address ls r = start-searched (address + 1) ls r ∙ rank-next (λ l. l .address) address ls
-
--- `find` answers exactly the links of the address, in table order
+-- from where the address starts, as many links as it has are its links, in table order
 pub links-found : (address : ℕ) (ls : List Link) → Fine ls → take (length (linksTo address ls)) (drop (startOf address ls) ls) ≡ linksTo address ls
 unfolding linksTo startOf
 links-found address ls fine = span-at (λ l. l .address) address ls (addresses-up ls (fine .ranged) (fine .ascends))
-
--- an address that no link can have has none
-pub no-address : (address : ℕ) (ls : List Link) → Each InRange ls → 65535 < address → linksTo address ls ≡ []
-unfolding linksTo
-no-address address ls r h = kept-none (At (λ l. l .address) address) ls (each-map (λ l s. ne-eqb (l .address) address (λ e. omega (arith, s .address-high))) r)
 
 -- the class of an address is that of the link where it starts
 pub class-at-start : (address : ℕ) (ls : List Link) → Up (λ l. l .address) ls

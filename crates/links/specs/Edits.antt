@@ -1,17 +1,18 @@
--- Document 01, "Edits" and "Numbers the panel answers": what the calls of a table answer and leave.
+-- Document 01, "Edits" and "Numbers the panel answers": what the edits of a table answer and leave. Of each edit the checks of its
+-- own, the moved count and the links that it leaves stand apart, so that the panel's edits can be said by the same parts.
 -- Assumes nothing.
 use Prim.Native.Nat.{ℕ, _+_}
-use mathlib.Core.Path.{_≡_}
 use mathlib.Core.Bool.{Bool, false, cond, not, _&&_, _||_}
 use mathlib.Core.List.{List, [], _∷_, tail}
 use lib.ListN.{length}
 use lib.Dec.{eqb, ltb, leb}
+use Rattle.laws.specs.Kept.{kept}
 use Rattle.answers.specs.Answers.{Check, refusal, Outcome, answered}
-use Rattle.links.specs.declared.link.Link.{Link}
-use Rattle.links.specs.declared.addresses.Found.{Found}
-use Rattle.links.specs.declared.addresses.Classed.{Classed}
-use Rattle.links.specs.declared.edits.Edited.{Edited}
-use Rattle.links.specs.Links.{kept, inRange, keyOf, classOf, Held, heldOf, holding, linksTo, startOf, addressClass}
+use Rattle.kinds.specs.Kinds.{classOf}
+use Rattle.link.specs.declared.Link.{Link}
+use Rattle.link.specs.Link.{inRange, keyOf}
+use Rattle.links.specs.declared.table_edits.Edited.{Edited}
+use Rattle.links.specs.Links.{Held, heldOf, holding, linksTo, addressClass}
 use Rattle.links.specs.Sound.{isSound, most}
 
 module _ {A : Type 0} (key : A → ℕ) where
@@ -20,14 +21,18 @@ module _ {A : Type 0} (key : A → ℕ) where
   isIn a [] = false
   isIn a (x ∷ xs) = eqb (key x) (key a) || isIn a xs
 
-  -- "The table is held ascending": a new element stands behind all that are below it.
+  -- "The table is held ascending": a new element stands after all that are below it.
   unfoldable pub inserted : A → List A → List A
   inserted a [] = a ∷ []
   inserted a (x ∷ xs) = cond (ltb (key x) (key a)) (x ∷ inserted a xs) (a ∷ x ∷ xs)
 
+  -- Whether an element is another one.
+  abbrev pub others : A → A → Bool
+  others a x = not (eqb (key x) (key a))
+
   -- All but one element, in their order.
   unfoldable pub deleted : A → List A → List A
-  deleted a = kept (λ x. not (eqb (key x) (key a)))
+  deleted a = kept (others a)
 
   -- Whether an element is the first of a list.
   unfoldable pub isFirst : A → List A → Bool
@@ -43,9 +48,13 @@ module _ {A : Type 0} (key : A → ℕ) where
   unfoldable pub moved : List A → List A → ℕ
   moved old new = movedAmong new old new
 
+-- Whether a link names another tag.
+abbrev pub stays : ℕ → Link → Bool
+stays tag l = not (eqb (l .tag) tag)
+
 -- "Remove blind: also drops its links": all links but those of a tag, in their order.
 unfoldable pub dropped : ℕ → List Link → List Link
-dropped tag = kept (λ l. not (eqb (l .tag) tag))
+dropped tag = kept (stays tag)
 
 -- "Address has another class".
 unfoldable pub otherClass : Link → List Link → Bool
@@ -56,63 +65,55 @@ otherClass l ls =
 unfoldable pub noLinkTo : ℕ → List Link → Bool
 noLinkTo address ls = eqb (length (linksTo address ls)) 0
 
--- Every call first refuses a table that is not sound.
+-- Every edit first refuses a table that is not sound.
 abbrev pub unsound : Held → Check
 unsound h = (not (isSound h), 12)
 
--- Find: "no link for this address"; else how many there are, and where they start.
-unfoldable pub found : ℕ → Held → Outcome ℕ
-found address h =
-    answered (refusal (unsound h ∷ (noLinkTo address (h .links), 5) ∷ [])) 0
-    (length (linksTo address (h .links)))
-    (startOf address (h .links))
+-- ---- add link
 
--- The class of an address: "no link for this address"; else the class. It has no count.
-unfoldable pub classed : ℕ → Held → Outcome ℕ
-classed address h =
-    answered (refusal (unsound h ∷ (noLinkTo address (h .links), 5) ∷ [])) 0 0 (addressClass address (h .links))
+-- "Then .. add link .. 4, 8, 7".
+abbrev pub addOwn : Link → Held → List Check
+addOwn l h = (isIn keyOf l (h .links), 4) ∷ (otherClass l (h .links), 8) ∷ (leb most (h .count), 7) ∷ []
 
--- Add link, "checks in order: 12, 1; then add link .. 4, 8, 7".
+abbrev pub addLinks : Link → Held → List Link
+addLinks l h = inserted keyOf l (h .links)
+
+abbrev pub addMoved : Link → Held → ℕ
+addMoved l h = moved keyOf (h .links) (addLinks l h)
+
+-- "1: argument outside its range", before them.
 unfoldable pub addChecks : Link → Held → List Check
-addChecks l h =
-    (not (inRange l), 1) ∷ (isIn keyOf l (h .links), 4) ∷ (otherClass l (h .links), 8) ∷ (leb most (h .count), 7) ∷ []
+addChecks l h = (not (inRange l), 1) ∷ addOwn l h
 
 unfoldable pub added : Link → Held → Outcome Held
-added l h =
-    answered (refusal (unsound h ∷ addChecks l h)) h
-    (moved keyOf (h .links) (inserted keyOf l (h .links)))
-    (holding (inserted keyOf l (h .links)))
+added l h = answered (refusal (unsound h ∷ addChecks l h)) h (addMoved l h) (holding (addLinks l h))
 
--- Remove link, "5: no such link".
+-- ---- remove link
+
+-- "5: no such link".
+abbrev pub removeOwn : Link → Held → List Check
+removeOwn l h = (not (isIn keyOf l (h .links)), 5) ∷ []
+
+abbrev pub removeLinks : Link → Held → List Link
+removeLinks l h = deleted keyOf l (h .links)
+
+abbrev pub removeMoved : Link → Held → ℕ
+removeMoved l h = moved keyOf (h .links) (removeLinks l h)
+
 unfoldable pub removed : Link → Held → Outcome Held
-removed l h =
-    answered (refusal (unsound h ∷ (not (isIn keyOf l (h .links)), 5) ∷ [])) h
-    (moved keyOf (h .links) (deleted keyOf l (h .links)))
-    (holding (deleted keyOf l (h .links)))
+removed l h = answered (refusal (unsound h ∷ removeOwn l h)) h (removeMoved l h) (holding (removeLinks l h))
 
--- Remove all links of a tag.
+-- ---- remove the links of a tag: no check of its own
+
+abbrev pub tagLinks : ℕ → Held → List Link
+tagLinks tag h = dropped tag (h .links)
+
+abbrev pub tagMoved : ℕ → Held → ℕ
+tagMoved tag h = moved keyOf (h .links) (tagLinks tag h)
+
 unfoldable pub tagRemoved : ℕ → Held → Outcome Held
-tagRemoved tag h =
-    answered (refusal (unsound h ∷ [])) h
-    (moved keyOf (h .links) (dropped tag (h .links)))
-    (holding (dropped tag (h .links)))
+tagRemoved tag h = answered (refusal (unsound h ∷ [])) h (tagMoved tag h) (holding (tagLinks tag h))
 
--- Links added one after the other, by the call.
-unfoldable pub addedAll : List Link → Held → Held
-addedAll [] h = h
-addedAll (l ∷ ls) h = addedAll ls (added l h .leaves)
-
--- Each of them is accepted.
-abbrev pub AllAccepted : List Link → Held → Type 0
-AllAccepted [] h = Unit {0}
-AllAccepted (l ∷ ls) h = (added l h .answer ≡ 0) × AllAccepted ls (added l h .leaves)
-
--- What a result of a call says: the answer, the count, and what is found or left.
-abbrev pub foundOf : Found → Outcome ℕ
-foundOf r = record { answer = r .answer; count = r .count; leaves = r .start }
-
-abbrev pub classedOf : Classed → Outcome ℕ
-classedOf r = record { answer = r .answer; count = 0; leaves = r .class }
-
+-- What a result of an edit says: the answer, the count, and what is left.
 abbrev pub editedOf : Edited → Outcome Held
 editedOf r = record { answer = r .answer; count = r .moved; leaves = heldOf (r .table) }

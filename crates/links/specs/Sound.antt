@@ -3,26 +3,18 @@
 -- Assumes nothing.
 use Prim.Native.Nat.{ℕ, _<_, _≤_}
 use mathlib.Core.Path.{_≡_}
-use mathlib.Core.Bool.{Bool, true, not, _&&_, _||_}
+use mathlib.Core.Bool.{Bool, true, _&&_}
 use mathlib.Core.List.{List, [], _∷_}
 use lib.ListN.{length, getD}
-use lib.Dec.{eqb, ltb, leb}
-use Rattle.links.specs.declared.link.Link.{Link}
-use Rattle.links.specs.Links.{inRange, keyOf, classOf, Held}
+use lib.Dec.{leb}
+use Rattle.kinds.specs.Kinds.{classOf}
+use Rattle.link.specs.declared.Link.{Link}
+use Rattle.link.specs.Link.{inRange, nothing, Before, mayFollow}
+use Rattle.links.specs.Links.{Held}
 
 -- "Up to 512 links".
 abbrev pub most : ℕ
 most = 512
-
--- "Ascending by address, then tag, then kind".
-pub data Before (a b : Link) : Type 0 where
-  by-address : a .address < b .address → Before a b
-  by-tag : a .address ≡ b .address → a .tag < b .tag → Before a b
-  by-kind : a .address ≡ b .address → a .tag ≡ b .tag → a .kind < b .kind → Before a b
-
--- The link (0, 0, 0), which no table holds: it stands before every link in range.
-abbrev pub nothing : Link
-nothing = record { address = 0; tag = 0; kind = 0 }
 
 -- What a sound table is, said of each link and of any two.
 pub record Sound (h : Held) : Type 0 where
@@ -32,17 +24,11 @@ pub record Sound (h : Held) : Type 0 where
   pub one-class : (i j : ℕ) → i < j → j < length (h .links) → getD (h .links) i nothing .address ≡ getD (h .links) j nothing .address
       → classOf (getD (h .links) i nothing .kind) ≡ classOf (getD (h .links) j nothing .kind)
 
--- Whether a link may stand right behind another: in range, above it, and of its class if the address is the same.
-unfoldable pub mayFollow : Link → Link → Bool
-mayFollow last next =
-    inRange next && ltb (keyOf last) (keyOf next)
-    && (not (eqb (next .address) (last .address)) || eqb (classOf (next .kind)) (classOf (last .kind)))
-
--- Each link may stand right behind its neighbour.
+-- Each link may stand right after its neighbour.
 unfoldable pub inOrder : Link → List Link → Bool
 inOrder last [] = true
 inOrder last (next ∷ rest) = mayFollow last next && inOrder next rest
 
--- The test of soundness.
+-- The test of soundness. The first link is tested against (0, 0, 0), which stands before every link in range.
 unfoldable pub isSound : Held → Bool
 isSound h = leb (h .count) most && inOrder nothing (h .links)

@@ -1,7 +1,5 @@
 // Document 01, "Links and telegrams" and the edits of the table: up to 512 links, ascending by address, tag and kind.
 // Whatever a table holds, every call answers: one that is not sound is refused by 12 and handed back as it was.
 
-pub mod addresses;
-pub mod edits;
-pub mod link;
 pub mod table;
+pub mod table_edits;

@@ -10,7 +10,3 @@ use Rattle.tags.proofs.Members.{members-decide}
 -- two sets that a promise `tagsOf r ≡ s` allows are the same value
 pub one-set : (n : ℕ) (s : TagSet) (r₁ r₂ : Tags) → r₁ .word < 2 ^ n → r₂ .word < 2 ^ n → tagsOf r₁ ≡ s → tagsOf r₂ ≡ s → r₁ ≡ r₂
 one-set n s r₁ r₂ h₁ h₂ e₁ e₂ = ap (λ (w : ℕ). record { word = w }) (members-decide n (r₁ .word) (r₂ .word) h₁ h₂ (e₁ ∙ sym e₂))
-
--- two answers that a promise `r ≡ a` allows are the same
-pub one-answer : {A : Type 0} {a r₁ r₂ : A} → r₁ ≡ a → r₂ ≡ a → r₁ ≡ r₂
-one-answer e₁ e₂ = e₁ ∙ sym e₂

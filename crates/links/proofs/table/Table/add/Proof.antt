@@ -11,8 +11,9 @@ use Rattle.links.specs.Links.{heldOf}
 use Rattle.links.specs.Sound.{isSound}
 use Rattle.links.specs.Edits.{addChecks, editedOf}
 use Rattle.links.proofs.Calls.{accepted, added-unsound, added-refused}
-use Rattle.links.proofs.Editing.{place-low, added-at}
-use Rattle.links.proofs.Stores.{long, few, many}
+use Rattle.links.proofs.Leaves.{place-low, added-at}
+use Rattle.laws.proofs.Fills.{long}
+use Rattle.links.proofs.Stores.{few, many}
 use Rattle.links.proofs.table.Table.add.Statement.{statement}
 use Rattle.links.proofs.table.Table.add.Tie as tie
 
@@ -58,8 +59,7 @@ pub add-spec : {M : Type 1} → statement M
 add-spec =
     tie.close
     (tie.spec
-    (λ c κs. search needs)
-    (λ c κs. search needs)
+    (λ c κs. search needs) (λ c κs. search needs)
     returns
     (λ c κs. sound c)
     (λ c κs. (sound (c .before), c .place-of .ensures))

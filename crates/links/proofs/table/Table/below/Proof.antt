@@ -4,13 +4,13 @@ use Prim.Native.Nat.{ℕ, _+_, _-_, _≤_, _<_}
 use native.Mathlib.Omega.{arith}
 use mathlib.Core.Path.{_≡_, sym, ap, _∙_, subst}
 use lib.ListN.{length, getD, drop}
-use lib.Seq.{getD-take}
 use borrow.Author.Needs.{needs}
-use Rattle.links.specs.Links.{keyOf, rank, heldOf}
-use Rattle.links.specs.Sound.{nothing}
+use Rattle.link.specs.Link.{keyOf, nothing}
+use Rattle.links.specs.Links.{rank, heldOf}
 use Rattle.links.proofs.Order.{rank-more, rank-stop, rank-end}
 use Rattle.links.proofs.Sound.{sound-reads}
-use Rattle.links.proofs.Stores.{long, few, many}
+use Rattle.laws.proofs.Fills.{long}
+use Rattle.links.proofs.Stores.{few, many, held-at}
 use Rattle.links.proofs.table.Table.below.Statement.{statement}
 use Rattle.links.proofs.table.Table.below.Tie as tie
 
@@ -38,7 +38,7 @@ element-copy-out-here c = omega (arith, few _ (c .before .before .pre))
 here : (c : tie.After-key Inv-loop μ-loop) → c .key .result ≡ keyOf (getD (heldOf (c .before .before .before .before .args .t1) .links) (c .before .before .before .loop .i) nothing)
 here c =
     let t = c .before .before .before .before .args .t1 in
-    c .key .ensures ∙ ap keyOf (sym (getD-take (t .count) (t .links) (c .before .before .before .loop .i) nothing (c .before .before .loop-test .taken)))
+    c .key .ensures ∙ ap keyOf (sym (held-at t (c .before .before .before .loop .i) (c .before .before .loop-test .taken)))
 
 returns : tie.Need-returns Inv-loop μ-loop
 returns c =

@@ -2,14 +2,15 @@
 use native.Mathlib.Omega.{arith}
 use mathlib.Core.Path.{_≡_, sym, ap, _∙_}
 use lib.ListN.{length, getD}
-use lib.Seq.{getD-take}
 use borrow.Author.Needs.{needs}
-use Rattle.links.specs.declared.link.Link.{Link}
-use Rattle.links.specs.Links.{classOf, heldOf}
-use Rattle.links.specs.Sound.{nothing}
+use Rattle.link.specs.declared.Link.{Link}
+use Rattle.kinds.specs.Kinds.{classOf}
+use Rattle.links.specs.Links.{heldOf}
+use Rattle.link.specs.Link.{nothing}
 use Rattle.links.proofs.Sound.{Fine, sound-reads}
 use Rattle.links.proofs.Spans.{class-past, class-other, class-same}
-use Rattle.links.proofs.Stores.{long, few, many}
+use Rattle.laws.proofs.Fills.{long}
+use Rattle.links.proofs.Stores.{few, many, held-at}
 use Rattle.links.proofs.table.Table.class_at.Statement.{statement}
 use Rattle.links.proofs.table.Table.class_at.Tie as tie
 
@@ -24,7 +25,7 @@ full c = many (c .args .t1) (search (long, needs)) (few (c .args .t1) (c .pre .0
 there : (c : tie.Else1) → getD (c .before .before .args .t1 .links) (c .before .below .result) nothing ≡ getD (heldOf (c .before .before .args .t1) .links) (c .before .below .result) nothing
 there c =
     let t = c .before .before .args .t1 in
-    sym (getD-take (t .count) (t .links) (c .before .below .result) nothing (c .if1 .left))
+    sym (held-at t (c .before .below .result) (c .if1 .left))
 
 returns : tie.Need-returns
 returns c =

@@ -2,14 +2,14 @@
 use native.Mathlib.Omega.{arith}
 use mathlib.Core.Path.{_≡_, sym, ap, ap₂, _∙_}
 use lib.ListN.{length}
-use lib.Seq.{getD-take}
 use lib.Dec.{eqb}
 use borrow.Author.Needs.{needs}
-use Rattle.links.specs.Links.{keyOf, heldOf}
-use Rattle.links.specs.Sound.{nothing}
+use Rattle.link.specs.Link.{keyOf, nothing}
+use Rattle.links.specs.Links.{heldOf}
 use Rattle.links.proofs.Order.{in-past, in-here}
 use Rattle.links.proofs.Sound.{sound-reads}
-use Rattle.links.proofs.Stores.{long, few, many}
+use Rattle.laws.proofs.Fills.{long}
+use Rattle.links.proofs.Stores.{few, many, held-at}
 use Rattle.links.proofs.table.Table.holds.Statement.{statement}
 use Rattle.links.proofs.table.Table.holds.Tie as tie
 
@@ -28,7 +28,7 @@ returns-2 c =
     let start = c .before .before .before .before in
     let t = start .args .t1 in
     ap₂ eqb
-    (c .before .key .ensures ∙ ap keyOf (sym (getD-take (t .count) (t .links) (start .args .place) nothing (c .before .before .before .if1 .left))))
+    (c .before .key .ensures ∙ ap keyOf (sym (held-at t (start .args .place) (c .before .before .before .if1 .left))))
     (c .key2 .ensures)
     ∙ in-here keyOf (start .args .link) (heldOf t .links) nothing (sound-reads (heldOf t) (start .pre .0) .1 .ascends) (start .pre .1) (omega (arith, full start))
 
@@ -39,6 +39,5 @@ holds-spec =
     returns
     (λ c. omega (arith, few _ (c .before .pre .0)))
     (λ c. omega (arith, few _ (c .before .pre .0)))
-    (λ c κs. search needs)
-    (λ c κs. search needs)
+    (λ c κs. search needs) (λ c κs. search needs)
     returns-2)

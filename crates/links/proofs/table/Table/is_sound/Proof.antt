@@ -1,79 +1,68 @@
--- What is left of the links, tested behind the last one, decides as all links do; a neighbour that does not fit decides at once.
-use Prim.Native.Nat.{_+_, _-_, _≤_}
+-- The links that do not fit so far, and those among what is left, are all that do not fit; at the end none is left, and the sum tells.
+use Prim.Native.Nat.{ℕ, _+_, _-_, _≤_}
 use native.Mathlib.Omega.{arith}
-use mathlib.Core.Path.{_≡_, refl, sym, ap, _∙_}
+use mathlib.Core.Path.{_≡_, sym, ap, _∙_}
+use mathlib.Core.Bool.{cond}
 use lib.ListN.{length, getD, drop}
-use lib.Seq.{getD-take}
+use lib.Dec.{eqb}
 use borrow.Author.Needs.{needs}
-use borrow.Author.Tests.{not-true, not-false}
-use Rattle.links.specs.declared.link.Link.{Link}
+use Rattle.laws.proofs.Fills.{long}
+use Rattle.link.specs.declared.Link.{Link}
+use Rattle.link.specs.Link.{nothing, mayFollow}
 use Rattle.links.specs.Links.{heldOf}
-use Rattle.links.specs.Sound.{nothing, mayFollow, inOrder}
-use Rattle.links.proofs.Sound.{too-many, not-too-many, order-more, order-fails, order-end}
-use Rattle.links.proofs.Stores.{long, many}
+use Rattle.links.proofs.Misfits.{misfits, none-misfit, misfits-more, misfits-end, one-misfit}
+use Rattle.links.proofs.Sound.{too-many, not-too-many}
+use Rattle.links.proofs.Stores.{many, held-at}
 use Rattle.links.proofs.table.Table.is_sound.Statement.{statement}
 use Rattle.links.proofs.table.Table.is_sound.Tie as tie
 
 abbrev Inv-loop : tie.InvT-loop
-Inv-loop self count last₀ i₀ last i = (i ≤ count) × (inOrder last (drop i (heldOf self .links)) ≡ inOrder nothing (heldOf self .links))
+Inv-loop self count last₀ wrong₀ i₀ last wrong i =
+    (i ≤ count) × (wrong ≤ i) × (wrong + misfits last (drop i (heldOf self .links)) ≡ misfits nothing (heldOf self .links))
 
 abbrev μ-loop : tie.MeasureT-loop
-μ-loop self count last₀ i₀ last i = count - i
+μ-loop self count last₀ wrong₀ i₀ last wrong i = count - i
 
 returns : tie.Need-returns Inv-loop μ-loop
 returns c = sym (too-many (heldOf (c .before .args .t1)) (c .if1 .taken))
 
 loop-holds : tie.Need-loop-holds Inv-loop μ-loop
-loop-holds c = (omega arith, refl)
+loop-holds c = (omega arith, omega arith, omega arith)
 
 -- as many links are held as the count says
 full : (c : tie.Else1 Inv-loop μ-loop) → length (heldOf (c .before .args .t1) .links) ≡ c .before .args .t1 .count
 full c = many (c .before .args .t1) (search (long, needs)) (c .if1 .left)
 
-mul-next : tie.Need-mul-next Inv-loop μ-loop
-mul-next c = omega arith
+-- the link that was read is the one held at this place
+here : (c : tie.In-loop Inv-loop μ-loop)
+    → getD (heldOf (c .before .before .before .args .t1) .links) (c .before .loop .i) nothing ≡ getD (c .before .before .before .args .t1 .links) (c .before .loop .i) nothing
+here c = held-at (c .before .before .before .args .t1) (c .before .loop .i) (c .loop-test .taken)
 
-element-copy-out-next : tie.Need-element-copy-out-next Inv-loop μ-loop
-element-copy-out-next c = omega arith
+-- what was added is that link's part
+one : (c : tie.After-clash Inv-loop μ-loop)
+    → c .clash .result ≡ cond (mayFollow (c .before .before .before .loop .last) (getD (heldOf (c .before .before .before .before .before .args .t1) .links) (c .before .before .before .loop .i) nothing)) 0 1
+one c = c .clash .ensures ∙ ap (λ (l : Link). cond (mayFollow (c .before .before .before .loop .last) l) 0 1) (sym (here (c .before .before)))
 
--- the test that was made is that of the link held at this place
-here : (c : tie.After-may-follow Inv-loop μ-loop)
-    → c .may-follow .result ≡ mayFollow (c .before .before .before .loop .last) (getD (heldOf (c .before .before .before .before .before .args .t1) .links) (c .before .before .before .loop .i) nothing)
-here c =
-    let t = c .before .before .before .before .before .args .t1 in
-    c .may-follow .ensures
-    ∙ ap (mayFollow (c .before .before .before .loop .last)) (sym (getD-take (t .count) (t .links) (c .before .before .before .loop .i) nothing (c .before .before .loop-test .taken)))
-
-returns-2 : tie.Need-returns-2 Inv-loop μ-loop
-returns-2 c =
-    let at = c .before .before .before .before in
-    let t = at .before .before .args .t1 in
-    sym (not-too-many (heldOf t) (at .before .if1 .left)
-    ∙ order-fails (at .loop .last) (heldOf t .links) (at .loop .i) (omega (arith, full (at .before)))
-    (sym (here (c .before)) ∙ not-true _ (c .if2 .taken)) (at .loop .inv .1))
-
-add-i : tie.Need-add-i Inv-loop μ-loop
-add-i c = omega arith
-
-loop-less : tie.Need-loop-less Inv-loop μ-loop
-loop-less c = omega arith
+small : (c : tie.After-clash Inv-loop μ-loop) → c .clash .result ≤ 1
+small c = one-misfit (mayFollow (c .before .before .before .loop .last) (getD (heldOf (c .before .before .before .before .before .args .t1) .links) (c .before .before .before .loop .i) nothing)) (one c)
 
 loop-again : tie.Need-loop-again Inv-loop μ-loop
 loop-again c =
-    let at = c .before .before .before .before in
-    let t = at .before .before .args .t1 in (
+    let at = c .before .before .before in
+    let held = heldOf (at .before .before .args .t1) .links in (
       omega arith,
-      ap (λ (l : Link). inOrder l (drop (at .loop .i + 1) (heldOf t .links))) (sym (getD-take (t .count) (t .links) (at .loop .i) nothing (c .before .before .before .loop-test .taken)))
-          ∙ order-more (at .loop .last) (heldOf t .links) (at .loop .i) (omega (arith, full (at .before)))
-          (sym (here (c .before)) ∙ not-false _ (c .if2 .left)) (at .loop .inv .1),
+      omega (arith, at .loop .inv, small c),
+      ap (λ (l : Link). at .loop .wrong + c .clash .result + misfits l (drop (at .loop .i + 1) held)) (sym (here (c .before .before)))
+          ∙ misfits-more (at .loop .last) held (at .loop .i) (at .loop .wrong) (at .loop .inv .2) (omega (arith, full (at .before))) (one c),
     )
 
-returns-3 : tie.Need-returns-3 Inv-loop μ-loop
-returns-3 c =
+returns-2 : tie.Need-returns-2 Inv-loop μ-loop
+returns-2 c =
     let at = c .before in
-    let t = at .before .before .args .t1 in
-    sym (not-too-many (heldOf t) (at .before .if1 .left)
-    ∙ order-end (at .loop .last) (heldOf t .links) (at .loop .i) (omega (arith, full (at .before))) (at .loop .inv .1))
+    let h = heldOf (at .before .before .args .t1) in
+    ap (λ (n : ℕ). eqb n 0) (misfits-end (at .loop .last) (h .links) (at .loop .i) (at .loop .wrong) (at .loop .inv .2) (omega (arith, full (at .before))))
+    ∙ none-misfit nothing (h .links)
+    ∙ sym (not-too-many h (at .before .if1 .left))
 
 pub is-sound-spec : {M : Type 1} → statement M
 is-sound-spec =
@@ -83,11 +72,8 @@ is-sound-spec =
     μ-loop
     returns
     loop-holds
-    mul-next
-    element-copy-out-next
-    (λ c κs. search needs)
-    returns-2
-    add-i
-    loop-less
+    (λ c. omega arith) (λ c. omega arith) (λ c κs. search needs)
+    (λ c. omega (arith, c .before .before .before .loop .inv, small c))
+    (λ c. omega arith) (λ c. omega arith)
     loop-again
-    returns-3)
+    returns-2)

@@ -5,7 +5,9 @@ use mathlib.Core.Bool.{true, false, not, _&&_}
 use lib.Dec.{eqb}
 use borrow.Author.Needs.{needs}
 use borrow.Author.Tests.{not-true, not-false}
-use Rattle.links.specs.Links.{keyOf, classOf, inRange, heldOf}
+use Rattle.link.specs.Link.{keyOf, inRange}
+use Rattle.kinds.specs.Kinds.{classOf}
+use Rattle.links.specs.Links.{heldOf}
 use Rattle.links.specs.Edits.{isIn, otherClass}
 use Rattle.links.proofs.Calls.{judged-range, judged-there, judged-class, judged-full, judged-done}
 use Rattle.links.proofs.table.Table.judge_new.Statement.{statement}

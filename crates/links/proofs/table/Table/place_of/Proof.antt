@@ -2,7 +2,8 @@
 use Prim.Native.Nat.{ℕ}
 use mathlib.Core.Path.{_∙_, ap}
 use borrow.Author.Needs.{needs}
-use Rattle.links.specs.Links.{keyOf, rank, heldOf}
+use Rattle.link.specs.Link.{keyOf}
+use Rattle.links.specs.Links.{rank, heldOf}
 use Rattle.links.proofs.table.Table.place_of.Statement.{statement}
 use Rattle.links.proofs.table.Table.place_of.Tie as tie
 

@@ -1,4 +1,4 @@
--- The test refuses an unsound table, and a link that is not where the search for it ended is not there; else the links behind it move down.
+-- The test refuses an unsound table, and a link that is not where the search for it ended is not there; else the links after it move down.
 use native.Mathlib.Omega.{arith}
 use Prim.Native.Nat.{_<_}
 use mathlib.Core.Path.{_≡_, sym, ap, _∙_}
@@ -6,12 +6,14 @@ use mathlib.Core.Bool.{true}
 use lib.ListN.{length}
 use borrow.Author.Needs.{needs}
 use borrow.Author.Tests.{not-true, not-false}
-use Rattle.links.specs.Links.{keyOf, heldOf}
+use Rattle.link.specs.Link.{keyOf}
+use Rattle.links.specs.Links.{heldOf}
 use Rattle.links.specs.Sound.{isSound}
 use Rattle.links.specs.Edits.{isIn, editedOf}
 use Rattle.links.proofs.Calls.{removed-unsound, removed-none}
-use Rattle.links.proofs.Editing.{place-below, removed-at}
-use Rattle.links.proofs.Stores.{long, few, many}
+use Rattle.links.proofs.Leaves.{place-below, removed-at}
+use Rattle.laws.proofs.Fills.{long}
+use Rattle.links.proofs.Stores.{few, many}
 use Rattle.links.proofs.table.Table.remove.Statement.{statement}
 use Rattle.links.proofs.table.Table.remove.Tie as tie
 
@@ -51,8 +53,7 @@ pub remove-spec : {M : Type 1} → statement M
 remove-spec =
     tie.close
     (tie.spec
-    (λ c κs. search needs)
-    (λ c κs. search needs)
+    (λ c κs. search needs) (λ c κs. search needs)
     returns
     (λ c κs. sound c)
     (λ c κs. (sound (c .before), c .place-of .ensures))

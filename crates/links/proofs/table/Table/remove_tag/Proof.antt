@@ -26,8 +26,7 @@ pub remove-tag-spec : {M : Type 1} → statement M
 remove-tag-spec =
     tie.close
     (tie.spec
-    (λ c κs. search needs)
-    (λ c κs. search needs)
+    (λ c κs. search needs) (λ c κs. search needs)
     returns
     (λ c κs. sound c)
     returns-2)

@@ -5,8 +5,10 @@ use mathlib.Core.Path.{_≡_, refl}
 use lib.ListN.{length, drop}
 use lib.Seq.{paste}
 use borrow.Author.Needs.{needs}
-use Rattle.links.specs.Sound.{nothing}
-use Rattle.links.proofs.Stores.{long, copy-none, copy-more, with-held}
+use Rattle.link.specs.Link.{nothing}
+use Rattle.laws.proofs.Fills.{long}
+use Rattle.laws.proofs.Copies.{copy-none, copy-more}
+use Rattle.links.proofs.Stores.{with-held}
 use Rattle.links.proofs.table.Table.with_at.Statement.{statement}
 use Rattle.links.proofs.table.Table.with_at.Tie as tie
 
@@ -46,15 +48,7 @@ with-at-spec =
     Inv-loop
     μ-loop
     loop-holds
-    (λ c. omega arith)
-    (λ c. omega arith)
-    (λ c. omega arith)
-    (λ c. omega arith)
-    (λ c. omega arith)
-    (λ c. omega arith)
-    (λ c. omega arith)
+    (λ c. omega arith) (λ c. omega arith) (λ c. omega arith) (λ c. omega arith) (λ c. omega arith) (λ c. omega arith) (λ c. omega arith)
     loop-again
-    (λ c. omega arith)
-    (λ c. omega arith)
-    (λ c. omega arith)
+    (λ c. omega arith) (λ c. omega arith) (λ c. omega arith)
     returns)

@@ -1,12 +1,14 @@
--- The links behind the place, up to i, are copied one place down.
+-- The links after the place, up to i, are copied one place down.
 use Prim.Native.Nat.{_+_, _-_, _≤_}
 use native.Mathlib.Omega.{arith}
 use mathlib.Core.Path.{_≡_, refl}
 use lib.ListN.{length, drop}
 use lib.Seq.{paste}
 use borrow.Author.Needs.{needs}
-use Rattle.links.specs.Sound.{nothing}
-use Rattle.links.proofs.Stores.{long, copy-none, copy-more, without-held}
+use Rattle.link.specs.Link.{nothing}
+use Rattle.laws.proofs.Fills.{long}
+use Rattle.laws.proofs.Copies.{copy-none, copy-more}
+use Rattle.links.proofs.Stores.{without-held}
 use Rattle.links.proofs.table.Table.without_at.Statement.{statement}
 use Rattle.links.proofs.table.Table.without_at.Tie as tie
 
@@ -47,13 +49,7 @@ without-at-spec =
     μ-loop
     (λ c. omega arith)
     loop-holds
-    (λ c. omega arith)
-    (λ c. omega arith)
-    (λ c. omega arith)
-    (λ c. omega arith)
-    (λ c. omega arith)
-    (λ c. omega arith)
-    (λ c. omega arith)
+    (λ c. omega arith) (λ c. omega arith) (λ c. omega arith) (λ c. omega arith) (λ c. omega arith) (λ c. omega arith) (λ c. omega arith)
     loop-again
     (λ c. omega arith)
     returns)

@@ -6,9 +6,11 @@ use mathlib.Core.Bool.{cond}
 use lib.ListN.{length, getD}
 use lib.Dec.{ltb}
 use borrow.Author.Needs.{needs}
-use Rattle.links.specs.Sound.{nothing}
-use Rattle.links.proofs.Stores.{long, few}
-use Rattle.links.proofs.Sweep.{Swept, swept-none, swept-turn, swept-all, stays, one-place, one-move}
+use Rattle.link.specs.Link.{nothing}
+use Rattle.laws.proofs.Fills.{long}
+use Rattle.links.proofs.Stores.{few}
+use Rattle.links.proofs.Dropped.{Swept, swept-none, swept-turn, swept-all, one-place, one-move}
+use Rattle.links.specs.Edits.{stays}
 use Rattle.links.proofs.table.Table.without_tag.Statement.{statement}
 use Rattle.links.proofs.table.Table.without_tag.Tie as tie
 

@@ -1,0 +1,51 @@
+-- Document 01, "Links and telegrams": what a link is, its ranges, its order, and which link may stand right after another.
+-- Assumes nothing.
+use Prim.Native.Nat.{ℕ, _+_, _*_, _<_}
+use mathlib.Core.Path.{_≡_}
+use mathlib.Core.Bool.{Bool, cond, not, _&&_, _||_}
+use lib.Dec.{eqb, ltb, leb}
+use Rattle.kinds.specs.Kinds.{lastKind, classOf}
+use Rattle.link.specs.declared.Link.{Link}
+
+-- The highest address and the highest tag.
+abbrev pub lastAddress : ℕ
+lastAddress = 65535
+
+abbrev pub lastTag : ℕ
+lastTag = 63
+
+-- "Address 1 to 65535".
+abbrev pub isAddress : ℕ → Bool
+isAddress address = leb 1 address && leb address lastAddress
+
+-- "A link is (address 1 to 65535, tag, input kind)", with the tags 0 to 63 and the kinds up to the last.
+unfoldable pub inRange : Link → Bool
+inRange l = isAddress (l .address) && leb (l .tag) lastTag && leb (l .kind) lastKind
+
+-- The link of three numbers.
+abbrev pub linkOf : ℕ → ℕ → ℕ → Link
+linkOf address tag kind = record { address = address; tag = tag; kind = kind }
+
+-- The link (0, 0, 0), which is not in range: it stands before every link that is.
+abbrev pub nothing : Link
+nothing = linkOf 0 0 0
+
+-- The link of three numbers that are in range; else the link that is in no range.
+unfoldable pub linkMade : ℕ → ℕ → ℕ → Link
+linkMade address tag kind = cond (inRange (linkOf address tag kind)) (linkOf address tag kind) nothing
+
+-- "Ascending by address, then tag, then kind".
+pub data Before (a b : Link) : Type 0 where
+  by-address : a .address < b .address → Before a b
+  by-tag : a .address ≡ b .address → a .tag < b .tag → Before a b
+  by-kind : a .address ≡ b .address → a .tag ≡ b .tag → a .kind < b .kind → Before a b
+
+-- One number that orders links so.
+unfoldable pub keyOf : Link → ℕ
+keyOf l = l .address * 65536 + l .tag * 256 + l .kind
+
+-- Whether a link may stand right after another: in range, above it, and of its class if the address is the same.
+unfoldable pub mayFollow : Link → Link → Bool
+mayFollow last next =
+    inRange next && ltb (keyOf last) (keyOf next)
+    && (not (eqb (next .address) (last .address)) || eqb (classOf (next .kind)) (classOf (last .kind)))
