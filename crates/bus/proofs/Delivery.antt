@@ -1,31 +1,26 @@
 -- Delivery, link by link: what is left of the links, on the panel so far, leads to what all of them lead to.
 -- Assumes nothing.
-use Prim.Native.Nat.{ℕ, zero, suc, _+_, _-_, _≤_, _<_}
+use Prim.Native.Nat.{ℕ, suc, _+_, _-_, _≤_, _<_}
 use native.Mathlib.Numerals.{add-one}
 use native.Mathlib.Omega.{arith}
 use mathlib.Core.Path.{_≡_, refl, sym, ap, ap₂, _∙_}
-use mathlib.Core.Bool.{Bool, true, false, cond, _&&_}
-use mathlib.Core.List.{List, [], _∷_}
+use mathlib.Core.Bool.{Bool, true, false, cond}
+use mathlib.Core.List.{List, _∷_}
 use mathlib.Core.Option.{Option, none, some, Option·map}
 use lib.ListN.{length, getD, set, take, drop, length-set}
 use lib.Seq.{getD-take, drop-cons}
-use lib.Dec.{eqb, ltb}
-use borrow.Author.Tests.{eq-eqb, ne-eqb, lt-ltb, le-ltb, eqb-true, eqb-false}
-use Rattle.answers.specs.Answers.{refusal}
-use Rattle.answers.proofs.Refusals.{refused-by, passed-by, none-left}
+use lib.Dec.{eqb}
+use borrow.Author.Tests.{eqb-true}
 use Rattle.tags.specs.Tags.{TagSet, places, tagsOf}
 use Rattle.blind.specs.declared.Blind.{Blind}
 use Rattle.rules.specs.Rules.{heeded}
 use Rattle.rules.specs.Telegrams.{inputOf}
-use Rattle.links.specs.declared.link.Link.{Link}
-use Rattle.links.specs.declared.table.Table.{Table}
-use Rattle.links.specs.Links.{classOf, heldOf, linksTo, startOf, addressClass}
+use Rattle.link.specs.declared.Link.{Link}
+use Rattle.links.specs.Links.{heldOf}
 use Rattle.links.specs.Sound as ofLinks
-use Rattle.links.specs.Sound.{nothing}
-use Rattle.links.specs.Edits.{noLinkTo}
-use Rattle.links.proofs.Keys.{range-reads}
-use Rattle.links.proofs.Sound.{Fine, sound-reads, sound-decided}
-use Rattle.links.proofs.Spans.{addresses-up, rank-next, links-found, class-at-start, no-class}
+use Rattle.link.specs.Link.{nothing}
+use Rattle.link.proofs.Ranges.{range-reads}
+use Rattle.links.proofs.Sound.{sound-decided}
 use Rattle.links.proofs.Stores.{few, many}
 use Rattle.panel.specs.declared.Panel.{Panel}
 use Rattle.panel.specs.Panel.{Seat, Model, nobody, seatsOf, modelOf, reseated, eachSeat}
@@ -33,8 +28,7 @@ use Rattle.panel.specs.Fields.{withBlinds}
 use Rattle.panel.specs.Sound.{Sound}
 use Rattle.panel.proofs.Seats.{same-model, seat-present, present-tags, blind-written}
 use Rattle.bus.specs.Seats.{onBlind}
-use Rattle.bus.specs.Telegrams.{linkChecks, served, delivered}
-use Rattle.bus.proofs.Searching.{start-most}
+use Rattle.bus.specs.Telegrams.{served, delivered}
 
 -- the first of the elements from i to just before end
 span-next : {A : Type 0} (ls : List A) (d : A) (i end : ℕ) → i < end → i < length ls
@@ -74,9 +68,6 @@ link-served p link value b present fits e =
 -- ---- all links of a span
 
 module _ (value : ℕ) (p : Panel) (start end : ℕ) where
-  links : List Link
-  links = heldOf (p .table) .links
-
   -- what the whole span leads to
   abbrev pub target : Model
   target = delivered value (take (end - start) (drop start (heldOf (p .table) .links))) (modelOf p)
@@ -139,73 +130,3 @@ module _ (value : ℕ) (p : Panel) (start end : ℕ) where
               ap (delivered value (take (end - (i + 1)) (drop (i + 1) (heldOf (p .table) .links)))) here
               ∙ sym (ap (λ (ls : List Link). delivered value ls (modelOf next)) split) ∙ so-far .rest;
         }
-
--- ---- the links of an address
-
-module _ (t : Table) (address value : ℕ) (sound : ofLinks.isSound (heldOf t) ≡ true) (room : length (t .links) ≡ 512) where
-  -- they end where the next address starts
-  pub ends-at : startOf (address + 1) (heldOf t .links) ≡ startOf address (heldOf t .links) + length (linksTo address (heldOf t .links))
-  unfolding startOf linksTo
-  ends-at = rank-next (λ l. l .address) address (heldOf t .links)
-
-  pub ends-low : startOf address (heldOf t .links) + length (linksTo address (heldOf t .links)) ≤ t .count
-  ends-low = omega (arith, ends-at, start-most t (address + 1) sound room)
-
-  module _ {start count : ℕ} (from : start ≡ startOf address (heldOf t .links)) (counted : count ≡ length (linksTo address (heldOf t .links))) where
-    -- they are the links of the span
-    pub span-links : take count (drop start (heldOf t .links)) ≡ linksTo address (heldOf t .links)
-    span-links =
-        ap₂ (λ (k n : ℕ). take k (drop n (heldOf t .links))) counted from ∙ links-found address (heldOf t .links) (sound-reads (heldOf t) sound .1)
-
-    -- 5: no link for this address
-    pub no-link : count ≡ 0 → 5 ≡ refusal (linkChecks address value (heldOf t .links))
-    unfolding linkChecks noLinkTo
-    no-link h = sym (refused-by (eqb (length (linksTo address (heldOf t .links))) 0) 5 _ (eq-eqb (length (linksTo address (heldOf t .links))) 0 (omega arith)))
-
-    module _ (some-link : count ≡ 0 → ⊥) where
-      linked : noLinkTo address (heldOf t .links) ≡ false
-      unfolding noLinkTo
-      linked = ne-eqb (length (linksTo address (heldOf t .links))) 0 (λ e. some-link (counted ∙ e))
-
-      linked-some : 0 < length (linksTo address (heldOf t .links))
-      linked-some = go (length (linksTo address (heldOf t .links))) refl
-        where
-          go : (n : ℕ) → length (linksTo address (heldOf t .links)) ≡ n → 0 < n
-          go zero e = absurd (some-link (counted ∙ e))
-          go (suc n) e = omega arith
-
-      -- the first of them is in the table
-      pub first-held : start < t .count
-      first-held = omega (arith, ends-low, linked-some)
-
-      -- the first of them has the class of the address
-      first-class : classOf (getD (t .links) start nothing .kind) ≡ addressClass address (heldOf t .links)
-      first-class =
-          ap (λ (l : Link). classOf (l .kind)) (sym (getD-take (t .count) (t .links) start nothing first-held))
-          ∙ ap (λ (k : ℕ). classOf (getD (heldOf t .links) k nothing .kind)) from
-          ∙ go (ltb (startOf address (heldOf t .links)) (length (heldOf t .links)) && eqb (getD (heldOf t .links) (startOf address (heldOf t .links)) nothing .address) address) _
-          (class-at-start address (heldOf t .links) (addresses-up (heldOf t .links) (fine .ranged) (fine .ascends)))
-        where
-          fine : Fine (heldOf t .links)
-          fine = sound-reads (heldOf t) sound .1
-
-          go : (b : Bool) (x : ℕ) → addressClass address (heldOf t .links) ≡ cond b x 0 → x ≡ addressClass address (heldOf t .links)
-          go true x e = sym e
-          go false x e = absurd (eqb-false (addressClass address (heldOf t .links)) 0 (no-class address (heldOf t .links) ∙ linked) e)
-
-      -- 6: value not of the class
-      pub not-of-class : {class : ℕ} → class ≡ classOf (getD (t .links) start nothing .kind) → class < value
-          → 6 ≡ refusal (linkChecks address value (heldOf t .links))
-      unfolding linkChecks
-      not-of-class e h =
-          sym (passed-by (noLinkTo address (heldOf t .links)) 5 _ linked
-          ∙ refused-by (ltb (addressClass address (heldOf t .links)) value) 6 [] (lt-ltb (addressClass address (heldOf t .links)) value (omega (arith, e, first-class))))
-
-      -- neither
-      pub of-class : {class : ℕ} → class ≡ classOf (getD (t .links) start nothing .kind) → value ≤ class
-          → 0 ≡ refusal (linkChecks address value (heldOf t .links))
-      unfolding linkChecks
-      of-class e h =
-          sym (passed-by (noLinkTo address (heldOf t .links)) 5 _ linked
-          ∙ passed-by (ltb (addressClass address (heldOf t .links)) value) 6 [] (le-ltb (addressClass address (heldOf t .links)) value (omega (arith, e, first-class)))
-          ∙ none-left)

@@ -1,11 +1,10 @@
-pub mod Checks
-pub mod Searching
+pub mod Ranges
+pub mod Found
+pub mod Halving
+pub mod Reach
 pub mod Delivery
-pub mod Passing
 pub mod Cells
-pub mod Driving
+pub mod Steps
 pub mod Soundness
-pub mod Outcomes
 pub mod Locality
-pub mod Readings
-pub mod Answers
+pub mod Exact

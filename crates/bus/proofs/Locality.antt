@@ -9,67 +9,48 @@ use mathlib.Core.Option.{Option, none, some, Option·map}
 use lib.ListN.{length, getD}
 use lib.Dec.{eqb, ltb}
 use borrow.Author.Tests.{ne-eqb, eqb-true}
+use Rattle.answers.specs.Answers as answers
 use Rattle.answers.specs.Answers.{refusal}
+use Rattle.answers.specs.Rules.{Result, carried}
 use Rattle.answers.proofs.Refusals.{passed-by}
+use Rattle.answers.proofs.Rules.{answer-is, leaves-has, done}
 use Rattle.laws.proofs.Fills.{tabulate-at}
 use Rattle.tags.specs.Tags.{places}
 use Rattle.blind.specs.declared.Blind.{Blind}
 use Rattle.blind.specs.Millisecond.{milliseconds}
-use Rattle.reading.specs.Reports.{active, reading, report}
+use Rattle.heights.specs.Heights.{told}
+use Rattle.outputs.specs.Reports.{active, report}
 use Rattle.rules.specs.Rules.{heeded}
 use Rattle.rules.specs.Telegrams.{inputOf}
-use Rattle.links.specs.declared.link.Link.{Link}
-use Rattle.links.specs.Links.{kept, classOf, linksTo, addressClass}
+use Rattle.link.specs.declared.Link.{Link}
+use Rattle.laws.specs.Kept.{kept}
+use Rattle.laws.proofs.Kept.{kept-swap}
+use Rattle.kinds.specs.Kinds.{classOf}
+use Rattle.links.specs.Links.{linksTo, addressClass, linksOf}
 use Rattle.links.specs.Edits.{noLinkTo}
-use Rattle.links.proofs.Each as each
-use Rattle.links.proofs.Each.{Each, more, first, each-kept, kept-length}
+use Rattle.laws.proofs.Each.{Each, first}
+use Rattle.laws.proofs.Kept.{each-kept, kept-length}
 use Rattle.links.proofs.Sound.{Fine, sound-reads, sound-decided}
 use Rattle.links.proofs.Spans.{class-shared}
 use Rattle.panel.specs.Panel.{Seat, Model, eachSeat}
 use Rattle.panel.specs.Sound.{Sound}
-use Rattle.panel.specs.Calls.{outside, Left}
+use Rattle.panel.specs.Calls.{Cells, outside}
 use Rattle.panel.proofs.Decides.{sound-tested}
-use Rattle.panel.proofs.Checks.{lent-right}
+use Rattle.panel.proofs.Checks.{is-sound, lent-right}
 use Rattle.bus.specs.Seats.{onBlind}
-use Rattle.bus.specs.Reports.{noReport, cell, reports}
-use Rattle.bus.specs.Telegrams.{isOutside, linkChecks, telegramChecks, served, delivered, afterTelegram, telegrammed}
-use Rattle.bus.specs.TimeSteps.{afterStep, timeStepped}
-use Rattle.bus.specs.Locality.{ownLinks, reached, heardBy}
-use Rattle.bus.proofs.Checks.{sound-passed}
-use Rattle.bus.proofs.Outcomes.{answer-is, leaves-has, leaves-done}
-
--- ---- lists
-
-module _ {A : Type 0} where
-  -- those that pass one test and then another, and the other way round
-  pub kept-swap : (p q : A → Bool) (xs : List A) → kept p (kept q xs) ≡ kept q (kept p xs)
-  unfolding kept
-  kept-swap p q [] = refl
-  kept-swap p q (x ∷ xs) = go (p x) refl (q x) refl (kept-swap p q xs)
-    where
-      go : (a : Bool) → p x ≡ a → (b : Bool) → q x ≡ b → kept p (kept q xs) ≡ kept q (kept p xs)
-          → kept p (cond b (x ∷ kept q xs) (kept q xs)) ≡ kept q (cond a (x ∷ kept p xs) (kept p xs))
-      go true e true f ih = rw (e, f) (ap (λ (l : List A). x ∷ l) ih)
-      go true e false f ih = rw f ih
-      go false e true f ih = rw e ih
-      go false e false f ih = ih
-
-  -- each of those that are kept has passed
-  pub kept-pass : (p : A → Bool) (xs : List A) → Each (λ x. p x ≡ true) (kept p xs)
-  unfolding kept
-  kept-pass p [] = each.none
-  kept-pass p (x ∷ xs) = go (p x) refl (kept-pass p xs)
-    where
-      go : (b : Bool) → p x ≡ b → Each (λ y. p y ≡ true) (kept p xs) → Each (λ y. p y ≡ true) (cond b (x ∷ kept p xs) (kept p xs))
-      go true e ih = more e ih
-      go false e ih = ih
+use Rattle.outputs.specs.Reports.{noReport}
+use Rattle.bus.specs.Reports.{cell, reports}
+use Rattle.bus.specs.Telegrams.{isOutside, linkChecks, served, delivered, afterTelegram, telegramRule}
+use Rattle.bus.specs.TimeSteps.{afterStep, stepRule}
+use Rattle.bus.specs.Locality.{reached, heardBy, SeenAt}
+use Rattle.bus.proofs.Found.{kept-pass}
 
 -- ---- one tag in a delivery
 
 -- the seat of a tag: only its own links speak to its blind, and its terminal stays
 pub delivered-at : (value : ℕ) (links : List Link) (m : Model) (tag : ℕ)
-    → delivered value links m .seats tag ≡ Option·map (onBlind (heardBy value (ownLinks tag links))) (m .seats tag)
-unfolding delivered ownLinks kept heardBy eachSeat served
+    → delivered value links m .seats tag ≡ Option·map (onBlind (heardBy value (linksOf tag links))) (m .seats tag)
+unfolding delivered linksOf kept heardBy eachSeat served
 delivered-at value [] m tag = go (m .seats tag)
   where
     go : (o : Option Seat) → o ≡ Option·map (onBlind (λ b. b)) o
@@ -97,7 +78,7 @@ delivered-table value (link ∷ links) m = delivered-table value links (eachSeat
 -- what a telegram that is accepted leaves at a tag
 pub after-telegram-at : (address value : ℕ) (m : Model) (tag : ℕ)
     → afterTelegram address value m .seats tag ≡ Option·map (onBlind (heardBy value (reached tag address m))) (m .seats tag)
-unfolding afterTelegram ownLinks linksTo
+unfolding afterTelegram linksOf linksTo
 after-telegram-at address value m tag =
     delivered-at value (linksTo address (m .table .links)) m tag
     ∙ ap (λ (ls : List Link). Option·map (onBlind (heardBy value ls)) (m .seats tag))
@@ -106,11 +87,11 @@ after-telegram-at address value m tag =
 -- a blind that did not change has nothing to report
 pub report-same : (b : Blind) → report b b ≡ noReport
 unfolding report
-report-same b = go (active b)
+report-same b = go (told (b .params) (b .place)) (active b)
   where
-    go : (a : Bool) → cond (a && not a) (reading b) noReport ≡ noReport
-    go true = refl
-    go false = refl
+    go : (n : ℕ) (a : Bool) → cond (a && not a) n noReport ≡ noReport
+    go n true = refl
+    go n false = refl
 
 -- ---- a link of one's own
 
@@ -124,10 +105,10 @@ module _ (tag address : ℕ) (m : Model) where
   -- it has the class of its address
   pub own-class : Sound m → (link : Link) (rest : List Link) → reached tag address m ≡ link ∷ rest
       → classOf (link .kind) ≡ addressClass address (m .table .links)
-  unfolding ownLinks linksTo by-tag by-address
+  unfolding linksOf linksTo by-tag by-address
   own-class sound link rest own =
-      first (subst (Each Classed) own (each-kept by-address (ownLinks tag ls) (each-kept by-tag ls (class-shared address ls (fine .agrees)))))
-      (eqb-true (link .address) address (first (subst (Each (λ l. by-address l ≡ true)) own (kept-pass by-address (ownLinks tag ls)))))
+      first (subst (Each Classed) own (each-kept by-address (linksOf tag ls) (each-kept by-tag ls (class-shared address ls (fine .agrees)))))
+      (eqb-true (link .address) address (first (subst (Each (λ l. by-address l ≡ true)) own (kept-pass by-address (linksOf tag ls)))))
     where
       ls : List Link
       ls = m .table .links
@@ -140,7 +121,7 @@ module _ (tag address : ℕ) (m : Model) where
 
   -- so the address has a link
   pub own-linked : (link : Link) (rest : List Link) → reached tag address m ≡ link ∷ rest → noLinkTo address (m .table .links) ≡ false
-  unfolding ownLinks linksTo noLinkTo by-tag by-address
+  unfolding linksOf linksTo noLinkTo by-tag by-address
   own-linked link rest own =
       let some-own : length (kept by-tag (kept by-address (m .table .links))) ≡ suc (length rest) =
       ap length (kept-swap by-tag by-address (m .table .links) ∙ own) in
@@ -148,49 +129,41 @@ module _ (tag address : ℕ) (m : Model) where
 
 -- ---- the calls, seen from one blind
 
--- the seat of a tag and its cell after a call that made its blind another
-pub record SeenAt (left : Left) (tag : ℕ) (seat : Seat) (new : Blind) : Type 0 where
-  pub seated : left .panel .seats tag ≡ some (record { terminal = seat .terminal; blind = new })
-  pub told : getD (left .cells) tag noReport ≡ report (seat .blind) new
-
 cell-seen : (m n : Model) (tag : ℕ) (seat : Seat) (new : Blind) → tag < places → m .seats tag ≡ some seat
     → n .seats tag ≡ some (record { terminal = seat .terminal; blind = new }) → getD (reports m n) tag noReport ≡ report (seat .blind) new
 unfolding reports
 cell-seen m n tag seat new h e f = tabulate-at places (λ t. cell (m .seats t) (n .seats t)) tag noReport h ∙ ap₂ cell e f
 
 -- a telegram leaves the links alone, whatever its answer
-pub telegram-links : (address value : ℕ) (m : Model) (cells : List ℕ) → telegrammed address value m cells .leaves .panel .table ≡ m .table
-unfolding telegrammed afterTelegram
+pub telegram-links : (address value : ℕ) (m : Model) (cells : Cells) → carried (telegramRule address value) m cells .leaves .table ≡ m .table
+unfolding telegramRule afterTelegram
 telegram-links address value m cells =
-    leaves-has _ (record { panel = m; cells = cells }) _ (record { panel = afterTelegram address value m; cells = reports m (afterTelegram address value m) })
-    (λ (l : Left). l .panel .table ≡ m .table) refl (λ e. delivered-table value (linksTo address (m .table .links)) m)
+    leaves-has (telegramRule address value) m cells (λ (n : Model). n .table ≡ m .table) refl (λ e. delivered-table value (linksTo address (m .table .links)) m)
 
 -- and so does a time step
-pub time-step-links : (dt : ℕ) (m : Model) (cells : List ℕ) → timeStepped dt m cells .leaves .panel .table ≡ m .table
-unfolding timeStepped afterStep eachSeat
-time-step-links dt m cells =
-    leaves-has _ (record { panel = m; cells = cells }) _ (record { panel = afterStep dt m; cells = reports m (afterStep dt m) })
-    (λ (l : Left). l .panel .table ≡ m .table) refl (λ e. refl)
+pub time-step-links : (dt : ℕ) (m : Model) (cells : Cells) → carried (stepRule dt) m cells .leaves .table ≡ m .table
+unfolding stepRule afterStep eachSeat
+time-step-links dt m cells = leaves-has (stepRule dt) m cells (λ (n : Model). n .table ≡ m .table) refl (λ e. refl)
 
-module _ (address value : ℕ) (m : Model) (cells : List ℕ) (tag : ℕ) (seat : Seat) (sound : Sound m) (there : m .seats tag ≡ some seat) where
+module _ (address value : ℕ) (m : Model) (cells : Cells) (tag : ℕ) (seat : Seat) (sound : Sound m) (there : m .seats tag ≡ some seat) where
   -- accepted: the blind has heard its own links of this address, in their order, and its cell tells of it alone
-  pub telegram-local : telegrammed address value m cells .answer ≡ 0
-      → SeenAt (telegrammed address value m cells .leaves) tag seat (heardBy value (reached tag address m) (seat .blind))
-  unfolding telegrammed
+  pub telegram-local : carried (telegramRule address value) m cells .answer ≡ 0
+      → SeenAt (carried (telegramRule address value) m cells) tag seat (heardBy value (reached tag address m) (seat .blind))
+  unfolding telegramRule
   telegram-local e =
       let after : afterTelegram address value m .seats tag ≡ some (onBlind (heardBy value (reached tag address m)) seat) =
       after-telegram-at address value m tag ∙ ap (Option·map (onBlind (heardBy value (reached tag address m)))) there in
-      let leaves = leaves-done (refusal (telegramChecks address value m cells)) (record { panel = m; cells = cells }) (length (linksTo address (m .table .links)))
-      (record { panel = afterTelegram address value m; cells = reports m (afterTelegram address value m) }) e in
+      let leaves = done (telegramRule address value) m cells e in
       record {
-        seated = ap (λ (l : Left). l .panel .seats tag) leaves ∙ after;
-        told = ap (λ (l : Left). getD (l .cells) tag noReport) leaves
+        seated = ap (λ (r : Result Model Cells). r .leaves .seats tag) leaves ∙ after;
+        told = ap (λ (r : Result Model Cells). getD (r .cells .lent) tag noReport) leaves
             ∙ cell-seen m (afterTelegram address value m) tag seat (heardBy value (reached tag address m) (seat .blind)) (sound .tags tag seat there) there after;
       }
 
   -- accepted, and none of its links is of this address: the blind is as it was, and has nothing to report
-  pub telegram-unreached : reached tag address m ≡ [] → telegrammed address value m cells .answer ≡ 0
-      → (telegrammed address value m cells .leaves .panel .seats tag ≡ some seat) × (getD (telegrammed address value m cells .leaves .cells) tag noReport ≡ noReport)
+  pub telegram-unreached : reached tag address m ≡ [] → carried (telegramRule address value) m cells .answer ≡ 0
+      → (carried (telegramRule address value) m cells .leaves .seats tag ≡ some seat)
+      × (getD (carried (telegramRule address value) m cells .cells .lent) tag noReport ≡ noReport)
   unfolding heardBy
   telegram-unreached nothing e =
       let seen = telegram-local e in
@@ -198,26 +171,26 @@ module _ (address value : ℕ) (m : Model) (cells : List ℕ) (tag : ℕ) (seat 
       (seen .seated ∙ ap (λ (b : Blind). some (record { terminal = seat .terminal; blind = b })) same, seen .told ∙ ap (report (seat .blind)) same ∙ report-same (seat .blind))
 
   -- one of its links is of this address: that link's class, the value and the range decide the answer
-  pub telegram-decided : (link : Link) (rest : List Link) → length cells ≡ places → reached tag address m ≡ link ∷ rest
-      → telegrammed address value m cells .answer ≡ refusal (outside (isOutside address value) ∷ (ltb (classOf (link .kind)) value, 6) ∷ [])
-  unfolding telegrammed telegramChecks linkChecks refusal
+  pub telegram-decided : (link : Link) (rest : List Link) → length (cells .lent) ≡ places → reached tag address m ≡ link ∷ rest
+      → carried (telegramRule address value) m cells .answer ≡ refusal (outside (isOutside address value) ∷ (ltb (classOf (link .kind)) value, 6) ∷ [])
+  unfolding telegramRule linkChecks answers.first
   telegram-decided link rest long own =
-      answer-is _ _ _ _
+      answer-is (telegramRule address value) m cells
       ∙ lent-right places cells m (isOutside address value) (linkChecks address value (m .table .links)) long
-      ∙ sound-passed m (isOutside address value) (linkChecks address value (m .table .links)) (sound-tested m sound)
+      ∙ is-sound m (isOutside address value) (linkChecks address value (m .table .links)) (sound-tested m sound)
       ∙ ap (λ (n : ℕ). cond (isOutside address value) 1 n)
       (passed-by (noLinkTo address (m .table .links)) 5 ((ltb (addressClass address (m .table .links)) value, 6) ∷ []) (own-linked tag address m link rest own)
       ∙ ap (λ (class : ℕ). refusal ((ltb class value, 6) ∷ [])) (sym (own-class tag address m sound link rest own)))
 
-module _ (dt : ℕ) (m : Model) (cells : List ℕ) (tag : ℕ) (seat : Seat) (sound : Sound m) (there : m .seats tag ≡ some seat) where
+module _ (dt : ℕ) (m : Model) (cells : Cells) (tag : ℕ) (seat : Seat) (sound : Sound m) (there : m .seats tag ≡ some seat) where
   -- accepted: the blind is dt milliseconds on, whatever else there is in the panel
-  pub time-step-local : timeStepped dt m cells .answer ≡ 0 → SeenAt (timeStepped dt m cells .leaves) tag seat (milliseconds dt (seat .blind))
-  unfolding timeStepped afterStep eachSeat
+  pub time-step-local : carried (stepRule dt) m cells .answer ≡ 0 → SeenAt (carried (stepRule dt) m cells) tag seat (milliseconds dt (seat .blind))
+  unfolding stepRule afterStep eachSeat
   time-step-local e =
       let after : afterStep dt m .seats tag ≡ some (onBlind (milliseconds dt) seat) = ap (Option·map (onBlind (milliseconds dt))) there in
-      let leaves = leaves-done _ _ _ (record { panel = afterStep dt m; cells = reports m (afterStep dt m) }) e in
+      let leaves = done (stepRule dt) m cells e in
       record {
-        seated = ap (λ (l : Left). l .panel .seats tag) leaves ∙ after;
-        told = ap (λ (l : Left). getD (l .cells) tag noReport) leaves
+        seated = ap (λ (r : Result Model Cells). r .leaves .seats tag) leaves ∙ after;
+        told = ap (λ (r : Result Model Cells). getD (r .cells .lent) tag noReport) leaves
             ∙ cell-seen m (afterStep dt m) tag seat (milliseconds dt (seat .blind)) (sound .tags tag seat there) there after;
       }

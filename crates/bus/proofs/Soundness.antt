@@ -1,23 +1,29 @@
--- Every call of the bus side keeps a sound panel sound, and no tag gets or loses its blind.
+-- A telegram and a time step keep a sound panel sound, and no tag gets or loses its blind.
 -- Assumes nothing.
 use Prim.Native.Nat.{ℕ, _≤_}
 use mathlib.Core.Path.{_≡_, refl, sym, ap, _∙_, subst, fun-ext}
 use mathlib.Core.List.{List, [], _∷_}
 use lib.Dec.{eqb}
+use Rattle.answers.specs.Answers.{refusal}
 use Rattle.laws.proofs.Choices.{cond-has}
+use Rattle.tags.specs.Tags.{places}
+use Rattle.links.specs.Links.{linksTo}
 use Rattle.blind.specs.Millisecond.{milliseconds}
-use Rattle.reading.specs.Sound as ofBlind
+use Rattle.sound_blind.specs.Sound as ofBlind
 use Rattle.rules.specs.Rules.{heeded}
 use Rattle.rules.specs.Telegrams.{inputOf}
-use Rattle.conduct.proofs.Motions.{milliseconds-sound}
-use Rattle.conduct.proofs.Soundness.{heeded-sound, input-of-class}
-use Rattle.links.specs.declared.link.Link.{Link}
+use Rattle.conduct.proofs.SoundMotions.{milliseconds-sound}
+use Rattle.conduct.proofs.SoundCourses.{heeded-sound, input-of-class}
+use Rattle.link.specs.declared.Link.{Link}
 use Rattle.panel.specs.Panel.{Seat, Model, presentIn, eachSeat}
 use Rattle.panel.specs.Sound.{Sound}
+use Rattle.panel.specs.Calls.{Cells}
+use Rattle.panel.proofs.Checks.{lent-passed}
 use Rattle.panel.proofs.Kept.{each-present, blinds-sound}
 use Rattle.bus.specs.Seats.{onBlind}
-use Rattle.bus.specs.Telegrams.{served, delivered}
-use Rattle.bus.specs.TimeSteps.{afterStep}
+use Rattle.bus.specs.Telegrams.{isOutside, linkChecks, served, delivered, afterTelegram, telegramRule}
+use Rattle.bus.specs.TimeSteps.{afterStep, stepRule}
+use Rattle.bus.proofs.Ranges.{inside}
 
 -- ---- telegrams
 
@@ -47,6 +53,13 @@ module _ (value : ℕ) where
   delivered-present (link ∷ links) m =
       delivered-present links (eachSeat (served value link) m) ∙ fun-ext (each-present (served value link) m)
 
+pub telegram-keeps : (address value : ℕ) (m : Model) (cells : Cells) → Sound m → refusal (telegramRule address value .checks m cells) ≡ 0
+    → Sound (telegramRule address value .leaves m)
+unfolding telegramRule afterTelegram
+telegram-keeps address value m cells s e =
+    let known = lent-passed places cells m (isOutside address value) (linkChecks address value (m .table .links)) e in
+    delivered-sound value (inside address value (known .1 .within) .byte) (linksTo address (m .table .links)) m s
+
 -- ---- time steps
 
 pub step-sound : (dt : ℕ) (m : Model) → Sound m → Sound (afterStep dt m)
@@ -54,6 +67,10 @@ unfolding afterStep
 step-sound dt m s =
     blinds-sound (λ tag. onBlind (milliseconds dt)) m s (λ tag seat. refl)
     (λ tag seat at. milliseconds-sound dt (seat .blind) (s .blinds tag seat at))
+
+pub step-keeps : (dt : ℕ) (m : Model) (cells : Cells) → Sound m → refusal (stepRule dt .checks m cells) ≡ 0 → Sound (stepRule dt .leaves m)
+unfolding stepRule
+step-keeps dt m cells s e = step-sound dt m s
 
 pub step-present : (dt : ℕ) (m : Model) → presentIn (afterStep dt m) ≡ presentIn m
 unfolding afterStep
@@ -67,10 +84,3 @@ handed-sound value links m byte s e = subst Sound (sym e) (delivered-sound value
 
 pub handed-present : (value : ℕ) (links : List Link) (m : Model) {n : Model} → n ≡ delivered value links m → presentIn n ≡ presentIn m
 handed-present value links m e = ap presentIn e ∙ delivered-present value links m
-
--- one that stands for what a time step leaves
-pub later-sound : (dt : ℕ) (m : Model) {n : Model} → Sound m → n ≡ afterStep dt m → Sound n
-later-sound dt m s e = subst Sound (sym e) (step-sound dt m s)
-
-pub later-present : (dt : ℕ) (m : Model) {n : Model} → n ≡ afterStep dt m → presentIn n ≡ presentIn m
-later-present dt m e = ap presentIn e ∙ step-present dt m

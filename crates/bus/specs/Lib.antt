@@ -2,6 +2,5 @@ pub mod Seats
 pub mod Reports
 pub mod Telegrams
 pub mod TimeSteps
-pub mod Strip
+pub mod Cases
 pub mod Locality
-pub mod Answers

@@ -5,7 +5,7 @@ use mathlib.Core.List.{List}
 use mathlib.Core.Option.{Option, none, some}
 use Rattle.laws.specs.Fills.{tabulate}
 use Rattle.tags.specs.Tags.{places}
-use Rattle.reading.specs.Reports.{report}
+use Rattle.outputs.specs.Reports.{report}
 use Rattle.panel.specs.Panel.{Seat, Model}
 
 -- "Else 512."

@@ -1,33 +1,36 @@
--- Document 01, "Links and telegrams": what a telegram answers, and what it does to the panel.
+-- Document 01, "Links and telegrams": the rule of a telegram, what refuses it and what it does to the panel.
 -- Assumes nothing.
 use Prim.Native.Nat.{ℕ}
-use mathlib.Core.Bool.{Bool, cond, _||_}
+use mathlib.Core.Path.{_≡_}
+use mathlib.Core.Bool.{Bool, cond, not, _||_}
 use mathlib.Core.List.{List, [], _∷_}
 use lib.ListN.{length}
 use lib.Dec.{eqb, ltb}
-use Rattle.answers.specs.Answers.{Check, refusal, Outcome, answered}
+use Rattle.answers.specs.Answers.{Check}
 use Rattle.tags.specs.Tags.{places}
 use Rattle.rules.specs.Rules.{heeded}
 use Rattle.rules.specs.Telegrams.{inputOf}
-use Rattle.links.specs.declared.link.Link.{Link}
-use Rattle.links.specs.Links.{linksTo, addressClass}
+use Rattle.link.specs.declared.Link.{Link}
+use Rattle.link.specs.Link.{isAddress}
+use Rattle.links.specs.Links.{linksTo, startOf, addressClass}
 use Rattle.links.specs.Edits.{noLinkTo}
 use Rattle.panel.specs.Panel.{Seat, Model, eachSeat}
-use Rattle.panel.specs.Calls.{lentChecks, Left}
+use Rattle.panel.specs.Calls.{row, lentChecks, CallRule}
 use Rattle.bus.specs.Seats.{onBlind}
 use Rattle.bus.specs.Reports.{reports}
 
 -- "A telegram is (address, value 0 to 255)", and an address is 1 to 65535: whether one of the two is outside its range.
 unfoldable pub isOutside : ℕ → ℕ → Bool
-isOutside address value = ltb address 1 || (ltb 65535 address || ltb 255 value)
+isOutside address value = not (isAddress address) || ltb 255 value
 
 -- "Checks in order: .. telegram 5, 6": no link for this address; value not of the class of its links.
 unfoldable pub linkChecks : ℕ → ℕ → List Link → List Check
 linkChecks address value links = (noLinkTo address links, 5) ∷ (ltb (addressClass address links) value, 6) ∷ []
 
-unfoldable pub telegramChecks : ℕ → ℕ → Model → List ℕ → List Check
-telegramChecks address value m cells =
-    lentChecks places cells m (isOutside address value) (linkChecks address value (m .table .links))
+-- Where the links of an address stand: together, since the table ascends by address.
+pub record Together (address : ℕ) (links : List Link) (start count : ℕ) : Type 0 where
+  pub from : start ≡ startOf address links
+  pub counted : count ≡ length (linksTo address links)
 
 -- A link names a tag and a kind: the blind of the tag heeds what the value says on this kind, and every other is as it was.
 unfoldable pub served : ℕ → Link → ℕ → Seat → Seat
@@ -42,9 +45,14 @@ delivered value (link ∷ links) m = delivered value links (eachSeat (served val
 unfoldable pub afterTelegram : ℕ → ℕ → Model → Model
 afterTelegram address value m = delivered value (linksTo address (m .table .links)) m
 
--- What a telegram answers, "how many there were", and what it leaves.
-unfoldable pub telegrammed : ℕ → ℕ → Model → List ℕ → Outcome Left
-telegrammed address value m cells =
-    answered (refusal (telegramChecks address value m cells)) (record { panel = m; cells = cells })
-    (length (linksTo address (m .table .links)))
-    (record { panel = afterTelegram address value m; cells = reports m (afterTelegram address value m) })
+-- What refuses a telegram, and where nothing does: it "answers how many there were", the links of its address hear it, and
+-- each cell tells of the whole call.
+unfoldable pub telegramRule : ℕ → ℕ → CallRule
+telegramRule address value =
+    record {
+      checks = λ m cells. lentChecks places cells m (isOutside address value) (linkChecks address value (m .table .links));
+      count = λ m. length (linksTo address (m .table .links));
+      second = λ m. 0;
+      leaves = afterTelegram address value;
+      fills = λ m cells. row (reports m (afterTelegram address value m));
+    }

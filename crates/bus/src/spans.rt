@@ -1,14 +1,15 @@
 // Document 01, "Links and telegrams": where the links of an address stand in a sound table. The links ascend by
 // address, so those of one address stand together, and each end is found by halving.
-use links::link::Link;
+use link::Link;
 use links::table::Table;
 ghost use Prim.Native.Nat.{_≤_};
 ghost use mathlib.Core.Path.{_≡_};
 ghost use mathlib.Core.Bool.{true};
-ghost use lib.ListN.{length};
 ghost use lib.Dec.{ltb};
-ghost use Rattle.links.specs.Links.{heldOf, startOf, linksTo};
+ghost use Rattle.link.specs.Link.{lastAddress};
+ghost use Rattle.links.specs.Links.{heldOf, startOf};
 ghost use Rattle.links.specs.Sound.{isSound};
+ghost use Rattle.bus.specs.Telegrams.{Together};
 
 // Where the links of an address start, and how many they are.
 pub(crate) struct Span {
@@ -19,8 +20,8 @@ pub(crate) struct Span {
 impl Span {
     pub(crate) fn of(table: Table, address: u64) -> Span
         requires { ⌜ isSound (heldOf table) ≡ true ⌝ }
-        requires { ⌜ address ≤ 65535 ⌝ }
-        ensures { λ r. ⌜ (r .start ≡ startOf address (heldOf table .links)) × (r .count ≡ length (linksTo address (heldOf table .links))) ⌝ }
+        requires { ⌜ address ≤ lastAddress ⌝ }
+        ensures { λ r. ⌜ Together address (heldOf table .links) (r .start) (r .count) ⌝ }
     {
         let start = below(table, address);
         let end = below(table, address + 1);

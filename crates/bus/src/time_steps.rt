@@ -1,8 +1,10 @@
 // Document 01, "One millisecond": a time step of dt, 0 to 60,000, is dt milliseconds for every blind.
-use crate::judging::judge_lent;
 use crate::reports::CELLS;
-use crate::reports::fill;
+use crate::reports::cell;
 use answers::DONE;
+use answers::NOT_SOUND;
+use answers::OUT_OF_RANGE;
+use answers::WRONG_CELLS;
 use blind::Blind;
 use panel::Panel;
 use panel::calls::Answered;
@@ -11,43 +13,48 @@ ghost use mathlib.Core.Path.{_≡_};
 ghost use mathlib.Core.Bool.{cond};
 ghost use Rattle.tags.specs.Tags.{tagsOf};
 ghost use Rattle.blind.specs.Millisecond.{milliseconds};
-ghost use Rattle.panel.specs.Panel.{modelOf};
-ghost use Rattle.panel.specs.Calls.{outcomeWith};
-ghost use Rattle.bus.specs.TimeSteps.{afterStep, timeStepped};
+ghost use Rattle.panel.specs.Calls.{row, Does};
+ghost use Rattle.bus.specs.TimeSteps.{stepRule};
 
 const LONGEST: u64 = 60000;
 
-pub fn time_step(panel: Panel, dt: u64, cells: &mut [u16]) -> Answered
-    ensures { λ r. ⌜ outcomeWith r (now (cells .exit)) ≡ timeStepped dt (modelOf panel) (now (cells .entry)) ⌝ }
+// Every blind by itself: no blind's time hangs on another's, so each is stepped and reported in one turn.
+pub fn time_step(mut panel: Panel, dt: u64, cells: &mut [u16]) -> Answered
+    ensures { λ r. ⌜ Does (stepRule dt) panel (row (now (cells .entry))) r (row (now (cells .exit))) ⌝ }
 {
-    let refused = judge_lent(panel, cells.len(), CELLS, LONGEST < dt);
-    if refused != DONE {
+    if cells.len() != CELLS {
         return Answered {
-            answer: refused,
+            answer: WRONG_CELLS,
             count: 0,
             panel,
         };
     }
-    let next = pass(panel, dt);
-    fill(panel, next, cells);
+    if !panel.is_sound() {
+        return Answered {
+            answer: NOT_SOUND,
+            count: 0,
+            panel,
+        };
+    }
+    if LONGEST < dt {
+        return Answered {
+            answer: OUT_OF_RANGE,
+            count: 0,
+            panel,
+        };
+    }
+    let present = panel.present;
+    for tag in 0..CELLS {
+        let old = panel.blinds[tag];
+        let new = later(present, tag, old, dt);
+        panel.blinds[tag] = new;
+        cells[tag] = cell(present, tag, old, new);
+    }
     Answered {
         answer: DONE,
         count: 0,
-        panel: next,
+        panel,
     }
-}
-
-// Every blind by itself: no blind's time hangs on another's.
-fn pass(panel: Panel, dt: u64) -> Panel
-    ensures { λ r. ⌜ modelOf r ≡ afterStep dt (modelOf panel) ⌝ }
-{
-    let present = panel.present;
-    let mut next = panel;
-    for tag in 0..CELLS {
-        let blind = next.blinds[tag];
-        next.blinds[tag] = later(present, tag, blind, dt);
-    }
-    next
 }
 
 // A place whose tag is absent is passed over: nothing there is a blind.

@@ -1,10 +1,6 @@
-pub mod Parameters
-pub mod BlindEdits
-pub mod LinkEdits
+pub mod Passed
+pub mod Written
+pub mod Exact
 pub mod Soundness
 pub mod Untouched
 pub mod Tables
-pub mod Rebuilt
-pub mod Refused
-pub mod Outcomes
-pub mod Exact

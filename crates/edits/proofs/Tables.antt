@@ -1,71 +1,46 @@
--- The table that an edit leaves, and the count with it: accepted edits of the table leave the list that the definitions say, and
--- answer how many surviving links stand at another place; all others leave the table as it was. Assumes nothing.
+-- The table that an edit of a blind leaves: remove blind drops the links of its tag, counts by places, and what is left is the
+-- one that its links give afresh; the other edits leave it as it was. Assumes nothing.
 use Prim.Native.Nat.{ℕ}
-use mathlib.Core.Path.{_≡_, refl, sym, ap, _∙_}
-use mathlib.Core.Option.{none}
-use Rattle.links.specs.declared.link.Link.{Link}
-use Rattle.links.specs.Links.{keyOf, holding}
-use Rattle.links.specs.Edits.{inserted, deleted, moved, dropped}
-use Rattle.panel.specs.Panel.{Model, reseated, relinked}
-use Rattle.seats.proofs.Leaves.{Accepted, accepted, left-has}
-use Rattle.edits.specs.declared.asked.Asked.{Asked}
-use Rattle.edits.specs.Edits.{installed, blindRemoved, paramsWritten, linkAdded, linkRemoved}
+use mathlib.Core.Path.{_≡_, sym, ap, _∙_}
+use mathlib.Core.List.{List, List·Permᴰ}
+use Rattle.answers.specs.Answers.{refusal}
+use Rattle.answers.specs.Rules.{Result, carried}
+use Rattle.answers.proofs.Rules.{done}
+use Rattle.link.specs.declared.Link.{Link}
+use Rattle.link.specs.Link.{keyOf}
+use Rattle.links.specs.Edits.{moved, tagLinks}
+use Rattle.panel.specs.Panel.{Model, reseated}
+use Rattle.panel.specs.Sound.{Fine}
+use Rattle.panel.specs.Calls.{Cells}
+use Rattle.wiring.specs.Afresh.{Rebuilt}
+use Rattle.wiring.proofs.Rebuilt.{rebuilt}
+use Rattle.edits.specs.Edits.{installRule, removeRule, writeRule}
+use Rattle.edits.proofs.Soundness.{install-keeps, write-keeps, remove-keeps}
 
-module _ (m : Model) where
-  -- how many links of the panel stand at another place in another one
-  abbrev movedTo : Model → ℕ
-  movedTo n = moved keyOf (m .table .links) (n .table .links)
+module _ (m : Model) (cells : Cells) (tag : ℕ) where
+  -- the moved count, by places
+  pub remove-moved : carried (removeRule tag) m cells .answer ≡ 0
+      → carried (removeRule tag) m cells .count ≡ moved keyOf (m .table .links) (carried (removeRule tag) m cells .leaves .table .links)
+  unfolding removeRule
+  remove-moved e =
+      let all = done (removeRule tag) m cells e in
+      ap (λ (r : Result Model Cells). r .count) all ∙ sym (ap (λ (r : Result Model Cells). moved keyOf (m .table .links) (r .leaves .table .links)) all)
 
-  add-done : (l : Link) → linkAdded l m .answer ≡ 0
-      → (linkAdded l m .leaves ≡ relinked (holding (inserted keyOf l (m .table .links))) m) × (linkAdded l m .count ≡ movedTo (linkAdded l m .leaves))
-  unfolding linkAdded
-  add-done l e =
-      let done : Accepted _ m _ (relinked (holding (inserted keyOf l (m .table .links))) m) =
-      accepted _ m (moved keyOf (m .table .links) (inserted keyOf l (m .table .links))) _ e in
-      (done .leaves, done .counts ∙ ap movedTo (sym (done .leaves)))
+  module _ (f : Fine m) (order : List Link) where
+    -- from the surviving links
+    pub remove-rebuilt : refusal (removeRule tag .checks m cells) ≡ 0 → List·Permᴰ order (tagLinks tag (m .table)) → Rebuilt order (removeRule tag .leaves m)
+    unfolding removeRule
+    remove-rebuilt e perm = rebuilt (removeRule tag .leaves m) (remove-keeps m cells f tag e) order perm
 
-  remove-link-done : (l : Link) → linkRemoved l m .answer ≡ 0
-      → (linkRemoved l m .leaves ≡ relinked (holding (deleted keyOf l (m .table .links))) m) × (linkRemoved l m .count ≡ movedTo (linkRemoved l m .leaves))
-  unfolding linkRemoved
-  remove-link-done l e =
-      let done : Accepted _ m _ (relinked (holding (deleted keyOf l (m .table .links))) m) =
-      accepted _ m (moved keyOf (m .table .links) (deleted keyOf l (m .table .links))) _ e in
-      (done .leaves, done .counts ∙ ap movedTo (sym (done .leaves)))
+    -- from the links as they were
+    pub install-rebuilt : (terminal : ℕ) (a : List ℕ) → refusal (installRule tag terminal a .checks m cells) ≡ 0 → List·Permᴰ order (m .table .links)
+        → Rebuilt order (installRule tag terminal a .leaves m)
+    unfolding installRule reseated
+    install-rebuilt terminal a e perm =
+        rebuilt (installRule tag terminal a .leaves m) (install-keeps m cells f tag terminal a e) order perm
 
-  remove-done : (tag : ℕ) → blindRemoved tag m .answer ≡ 0
-      → (blindRemoved tag m .leaves ≡ relinked (holding (dropped tag (m .table .links))) (reseated tag none m)) × (blindRemoved tag m .count ≡ movedTo (blindRemoved tag m .leaves))
-  unfolding blindRemoved
-  remove-done tag e =
-      let done : Accepted _ m _ (relinked (holding (dropped tag (m .table .links))) (reseated tag none m)) =
-      accepted _ m (moved keyOf (m .table .links) (dropped tag (m .table .links))) _ e in
-      (done .leaves, done .counts ∙ ap movedTo (sym (done .leaves)))
-
-  -- ---- the moved count, by places
-
-  pub add-moved : (l : Link) → linkAdded l m .answer ≡ 0 → linkAdded l m .count ≡ moved keyOf (m .table .links) (linkAdded l m .leaves .table .links)
-  add-moved l e = add-done l e .1
-
-  pub remove-link-moved : (l : Link) → linkRemoved l m .answer ≡ 0 → linkRemoved l m .count ≡ moved keyOf (m .table .links) (linkRemoved l m .leaves .table .links)
-  remove-link-moved l e = remove-link-done l e .1
-
-  pub remove-moved : (tag : ℕ) → blindRemoved tag m .answer ≡ 0 → blindRemoved tag m .count ≡ moved keyOf (m .table .links) (blindRemoved tag m .leaves .table .links)
-  remove-moved tag e = remove-done tag e .1
-
-  -- ---- the table that is left
-
-  pub add-table : (l : Link) → linkAdded l m .answer ≡ 0 → linkAdded l m .leaves .table ≡ holding (inserted keyOf l (m .table .links))
-  add-table l e = ap (λ (n : Model). n .table) (add-done l e .0)
-
-  pub remove-link-table : (l : Link) → linkRemoved l m .answer ≡ 0 → linkRemoved l m .leaves .table ≡ holding (deleted keyOf l (m .table .links))
-  remove-link-table l e = ap (λ (n : Model). n .table) (remove-link-done l e .0)
-
-  pub remove-table : (tag : ℕ) → blindRemoved tag m .answer ≡ 0 → blindRemoved tag m .leaves .table ≡ holding (dropped tag (m .table .links))
-  remove-table tag e = ap (λ (n : Model). n .table) (remove-done tag e .0)
-
-  pub install-table : (tag terminal : ℕ) (a : Asked) → installed tag terminal a m .leaves .table ≡ m .table
-  unfolding installed reseated
-  install-table tag terminal a = left-has _ m _ _ (λ (n : Model). n .table ≡ m .table) refl (λ e. refl)
-
-  pub write-table : (tag : ℕ) (a : Asked) → paramsWritten tag a m .leaves .table ≡ m .table
-  unfolding paramsWritten reseated
-  write-table tag a = left-has _ m _ _ (λ (n : Model). n .table ≡ m .table) refl (λ e. refl)
+    pub write-rebuilt : (a : List ℕ) → refusal (writeRule tag a .checks m cells) ≡ 0 → List·Permᴰ order (m .table .links)
+        → Rebuilt order (writeRule tag a .leaves m)
+    unfolding writeRule reseated
+    write-rebuilt a e perm =
+        rebuilt (writeRule tag a .leaves m) (write-keeps m cells f tag a e) order perm

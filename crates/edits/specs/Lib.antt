@@ -1,5 +1,2 @@
-pub mod Parameters
-pub mod Narrow
 pub mod Edits
 pub mod Cases
-pub mod Afresh

@@ -1,6 +1,5 @@
-// Document 01, "Edits" of a blind: install, remove, write parameters.
-// A judge answers the number that refuses a call, in the paper's order; the work is done only where it answers DONE.
-use super::asked::Asked;
+// Document 01, "Edits" of a blind: install, remove, write parameters. Each call makes its tests in its own body, in the
+// paper's order, and works on its own panel. Removing a blind leaves the judging of the table to the table's own edit.
 use answers::ALREADY_THERE;
 use answers::BUSY;
 use answers::DONE;
@@ -9,29 +8,106 @@ use answers::NOT_SOUND;
 use answers::OUT_OF_RANGE;
 use answers::TERMINAL_IN_USE;
 use blind::Blind;
-use blind::Params;
 use panel::Panel;
 use panel::calls::Answered;
+use panel::soundness::all_named;
+use params::Asked;
 use seats::TERMINALS;
 use tags::PLACES;
-ghost use Prim.Native.Nat.{_<_};
+use tags::Tags;
 ghost use mathlib.Core.Path.{_≡_};
 ghost use mathlib.Core.Bool.{not, _||_};
-ghost use mathlib.Core.Option.{some};
+ghost use mathlib.Core.List.{[], _∷_};
 ghost use lib.Dec.{leb};
 ghost use Rattle.answers.specs.Answers.{refusal};
-ghost use Rattle.tags.specs.Tags.{places};
-ghost use Rattle.panel.specs.Panel.{modelOf, reseated};
-ghost use Rattle.panel.specs.Calls.{outcomeOf};
+ghost use Rattle.outputs.specs.Reports.{busy};
+ghost use Rattle.tags.specs.Tags.{places, tagsOf};
+ghost use Rattle.panel.specs.Calls.{noCells, Does};
 ghost use Rattle.panel.specs.Strip.{terminals};
-ghost use Rattle.edits.specs.Parameters.{allowed};
-ghost use Rattle.edits.specs.Edits.{installChecks, freshSeat, installed, namedChecks, removeChecks, blindRemoved, writeChecks, paramsWritten};
+ghost use Rattle.params.specs.Numbers.{rowOf, allowed};
+ghost use Rattle.edits.specs.Edits.{installRule, removeRule, writeRule};
 
 // Installs a fresh blind; refused by 12, 1, 4, 10, in this order.
-pub fn install(panel: Panel, tag: u64, terminal: u64, asked: Asked) -> Answered
-    ensures { λ r. ⌜ outcomeOf r ≡ installed tag terminal asked (modelOf panel) ⌝ }
+pub fn install(mut panel: Panel, tag: u64, terminal: u64, asked: Asked) -> Answered
+    ensures { λ r. ⌜ Does (installRule tag terminal (rowOf asked)) panel noCells r noCells ⌝ }
 {
-    let answer = judge_install(panel, tag, terminal, asked);
+    if !panel.is_sound() {
+        return Answered {
+            answer: NOT_SOUND,
+            count: 0,
+            panel,
+        };
+    }
+    if is_outside(tag, terminal, asked) {
+        return Answered {
+            answer: OUT_OF_RANGE,
+            count: 0,
+            panel,
+        };
+    }
+    let present = panel.present;
+    if present.has(tag) {
+        return Answered {
+            answer: ALREADY_THERE,
+            count: 0,
+            panel,
+        };
+    }
+    for other in 0..64 {
+        let used = panel.terminals[other];
+        if seats::stands_within(present, other, used, terminal, terminal + 1) {
+            return Answered {
+                answer: TERMINAL_IN_USE,
+                count: 0,
+                panel,
+            };
+        }
+    }
+    let place = tag as usize;
+    let blind = Blind::fresh(asked.params());
+    panel.blinds[place] = blind;
+    panel.terminals[place] = terminal as u8;
+    let grown = present.with(tag);
+    panel.present = grown;
+    Answered {
+        answer: DONE,
+        count: 0,
+        panel,
+    }
+}
+
+// Removes a blind and its links; refused by 12, 1, 2, 3, in this order.
+pub fn remove_blind(mut panel: Panel, tag: u64) -> Answered
+    ensures { λ r. ⌜ Does (removeRule tag) panel noCells r noCells ⌝ }
+{
+    if !panel.seats_sound() {
+        return Answered {
+            answer: NOT_SOUND,
+            count: 0,
+            panel,
+        };
+    }
+    let present = panel.present;
+    let table = panel.table;
+    let edited = table.remove_tag(tag);
+    let sound = (edited.answer != NOT_SOUND) & all_named(present, table);
+    if !sound {
+        return Answered {
+            answer: NOT_SOUND,
+            count: 0,
+            panel,
+        };
+    }
+    if PLACES <= tag {
+        return Answered {
+            answer: OUT_OF_RANGE,
+            count: 0,
+            panel,
+        };
+    }
+    let place = tag as usize;
+    let blind = panel.blinds[place];
+    let answer = judge_named(present, tag, blind);
     if answer != DONE {
         return Answered {
             answer,
@@ -39,34 +115,56 @@ pub fn install(panel: Panel, tag: u64, terminal: u64, asked: Asked) -> Answered
             panel,
         };
     }
-    let seated = seat(panel, tag, terminal, asked.params());
+    let shrunk = present.without(tag);
+    panel.present = shrunk;
+    let links = edited.table;
+    panel.table = links;
+    Answered {
+        answer: DONE,
+        count: edited.moved,
+        panel,
+    }
+}
+
+// Writes the parameters of a blind; refused by 12, 1, 2, 3, in this order.
+pub fn write_params(mut panel: Panel, tag: u64, asked: Asked) -> Answered
+    ensures { λ r. ⌜ Does (writeRule tag (rowOf asked)) panel noCells r noCells ⌝ }
+{
+    if !panel.is_sound() {
+        return Answered {
+            answer: NOT_SOUND,
+            count: 0,
+            panel,
+        };
+    }
+    if is_beyond(tag, asked) {
+        return Answered {
+            answer: OUT_OF_RANGE,
+            count: 0,
+            panel,
+        };
+    }
+    let place = tag as usize;
+    let blind = panel.blinds[place];
+    let answer = judge_named(panel.present, tag, blind);
+    if answer != DONE {
+        return Answered {
+            answer,
+            count: 0,
+            panel,
+        };
+    }
+    let rewritten = rules::edits::rewrite(blind, asked.params());
+    panel.blinds[place] = rewritten;
     Answered {
         answer: DONE,
         count: 0,
-        panel: seated,
+        panel,
     }
-}
-
-fn judge_install(panel: Panel, tag: u64, terminal: u64, asked: Asked) -> u8
-    ensures { λ r. ⌜ r ≡ refusal (installChecks tag terminal asked (modelOf panel)) ⌝ }
-{
-    if !panel.is_sound() {
-        return NOT_SOUND;
-    }
-    if is_outside(tag, terminal, asked) {
-        return OUT_OF_RANGE;
-    }
-    if panel.present.has(tag) {
-        return ALREADY_THERE;
-    }
-    if seats::in_use(panel, terminal, terminal + 1) {
-        return TERMINAL_IN_USE;
-    }
-    DONE
 }
 
 fn is_outside(tag: u64, terminal: u64, asked: Asked) -> bool
-    ensures { λ r. ⌜ r ≡ (leb places tag || (leb terminals terminal || not (allowed asked))) ⌝ }
+    ensures { λ r. ⌜ r ≡ (leb places tag || (leb terminals terminal || not (allowed (rowOf asked)))) ⌝ }
 {
     if PLACES <= tag {
         return true;
@@ -77,112 +175,24 @@ fn is_outside(tag: u64, terminal: u64, asked: Asked) -> bool
     !asked.in_range()
 }
 
-// A tag gets a fresh blind at a terminal.
-fn seat(panel: Panel, tag: u64, terminal: u64, params: Params) -> Panel
-    requires { ⌜ tag < places ⌝ }
-    requires { ⌜ terminal < terminals ⌝ }
-    ensures { λ r. ⌜ modelOf r ≡ reseated tag (some (freshSeat terminal params)) (modelOf panel) ⌝ }
+fn is_beyond(tag: u64, asked: Asked) -> bool
+    ensures { λ r. ⌜ r ≡ (leb places tag || not (allowed (rowOf asked))) ⌝ }
 {
-    let place = tag as usize;
-    let mut next = panel;
-    let blind = Blind::fresh(params);
-    next.blinds[place] = blind;
-    next.terminals[place] = terminal as u8;
-    let present = panel.present.with(tag);
-    next.present = present;
-    next
-}
-
-// Removes a blind and its links; refused by 12, 1, 2, 3, in this order.
-pub fn remove_blind(panel: Panel, tag: u64) -> Answered
-    ensures { λ r. ⌜ outcomeOf r ≡ blindRemoved tag (modelOf panel) ⌝ }
-{
-    let answer = judge_remove(panel, tag);
-    if answer != DONE {
-        return Answered {
-            answer,
-            count: 0,
-            panel,
-        };
-    }
-    let table = panel.table;
-    let edited = table.remove_tag(tag);
-    let present = panel.present.without(tag);
-    let table = edited.table;
-    Answered {
-        answer: DONE,
-        count: edited.moved,
-        panel: Panel {
-            present,
-            table,
-            ..panel
-        },
-    }
-}
-
-fn judge_remove(panel: Panel, tag: u64) -> u8
-    ensures { λ r. ⌜ r ≡ refusal (removeChecks tag (modelOf panel)) ⌝ }
-{
-    if !panel.is_sound() {
-        return NOT_SOUND;
-    }
     if PLACES <= tag {
-        return OUT_OF_RANGE;
+        return true;
     }
-    judge_named(panel, tag)
+    !asked.in_range()
 }
 
-// Whether a blind that is named is there and not busy.
-fn judge_named(panel: Panel, tag: u64) -> u8
-    requires { ⌜ tag < places ⌝ }
-    ensures { λ r. ⌜ r ≡ refusal (namedChecks tag (modelOf panel)) ⌝ }
+// What refuses a blind that is named, from what stands at its place: it is not there, or it is busy.
+fn judge_named(present: Tags, tag: u64, blind: Blind) -> u8
+    ensures { λ r. ⌜ r ≡ refusal ((not (tagsOf present tag), 2) ∷ (busy blind, 3) ∷ []) ⌝ }
 {
-    if !panel.present.has(tag) {
+    if !present.has(tag) {
         return NO_BLIND;
     }
-    let place = tag as usize;
-    let blind = panel.blinds[place];
-    if reading::reports::is_busy(blind) {
+    if outputs::is_busy(blind) {
         return BUSY;
     }
     DONE
-}
-
-// Writes the parameters of a blind; refused by 12, 1, 2, 3, in this order.
-pub fn write_params(panel: Panel, tag: u64, asked: Asked) -> Answered
-    ensures { λ r. ⌜ outcomeOf r ≡ paramsWritten tag asked (modelOf panel) ⌝ }
-{
-    let answer = judge_write(panel, tag, asked);
-    if answer != DONE {
-        return Answered {
-            answer,
-            count: 0,
-            panel,
-        };
-    }
-    let place = tag as usize;
-    let mut next = panel;
-    let blind = panel.blinds[place];
-    let blind = rules::duties::rewrite(blind, asked.params());
-    next.blinds[place] = blind;
-    Answered {
-        answer: DONE,
-        count: 0,
-        panel: next,
-    }
-}
-
-fn judge_write(panel: Panel, tag: u64, asked: Asked) -> u8
-    ensures { λ r. ⌜ r ≡ refusal (writeChecks tag asked (modelOf panel)) ⌝ }
-{
-    if !panel.is_sound() {
-        return NOT_SOUND;
-    }
-    if PLACES <= tag {
-        return OUT_OF_RANGE;
-    }
-    if !asked.in_range() {
-        return OUT_OF_RANGE;
-    }
-    judge_named(panel, tag)
 }

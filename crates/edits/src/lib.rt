@@ -1,6 +1,3 @@
-// Document 01, "Edits": install a blind, remove one, write its parameters, add and remove a link, take the inventory.
-// Each call judges first and then does its work; a refused call hands the panel back as it was.
-pub mod asked;
+// Document 01, "Edits" of a blind: install one, remove one, write its parameters.
+// Each call judges first and then does its work; a refused call hands back the very panel.
 pub mod blinds;
-pub mod inventory;
-pub mod wiring;

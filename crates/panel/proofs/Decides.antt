@@ -2,37 +2,46 @@
 -- Assumes nothing.
 use Prim.Native.Nat.{ℕ, _^_, _<_, _≤_}
 use mathlib.Core.Path.{_≡_}
-use mathlib.Core.Bool.{true, false, and-false}
+use mathlib.Core.Bool.{true, false, and-true, and-false, _&&_}
 use mathlib.Core.Option.{some}
+use native.Mathlib.Omega.{arith}
+use lib.Seq.{length-take-le}
 use lib.ListN.{length, getD}
 use Rattle.laws.specs.Decides.{Decides}
+use Rattle.laws.proofs.Choices.{both-left}
 use Rattle.laws.proofs.Deciding.{le, and, said}
 use Rattle.laws.proofs.Every.{every-at, every-there, distinct-there}
 use Rattle.tags.specs.Tags.{places}
-use Rattle.reading.specs.Sound as ofBlind
-use Rattle.reading.proofs.Decides.{sound-decides as blind-decides}
+use Rattle.sound_blind.specs.Sound as ofBlind
+use Rattle.sound_blind.proofs.Decides.{sound-decides as blind-decides}
+use Rattle.link.specs.Link.{nothing}
 use Rattle.links.specs.Sound as ofLinks
 use Rattle.links.specs.Links.{Held}
 use Rattle.links.proofs.Sound.{sound-decided}
 use Rattle.panel.specs.declared.Panel.{Panel}
 use Rattle.panel.specs.Panel.{Seat, Model, modelOf, presentIn}
-use Rattle.panel.specs.Sound.{Tagged, Sound, seatsIn, soundSeat, soundSeats, allNamed, isSound}
+use Rattle.panel.specs.Sound.{Tagged, Sound, Fine, seatsIn, soundSeat, soundSeats, allNamed, isSound}
 use Rattle.panel.proofs.Seats.{panel-tagged}
 
 -- ---- the test, part by part
 
 module _ (m : Model) where
+  pub seats-fail : soundSeats m ≡ false → isSound m ≡ false
+  unfolding isSound
+  seats-fail e = rw (e, and-false (allNamed (presentIn m) (m .table .links)), and-false (ofLinks.isSound (m .table)))
+
   pub links-fail : ofLinks.isSound (m .table) ≡ false → isSound m ≡ false
   unfolding isSound
   links-fail e = rw e
 
-  pub names-fail : allNamed (presentIn m) (m .table .links) ≡ false → isSound m ≡ false
+  pub names-decide : soundSeats m ≡ true → ofLinks.isSound (m .table) ≡ true → isSound m ≡ allNamed (presentIn m) (m .table .links)
   unfolding isSound
-  names-fail e = rw e (and-false (ofLinks.isSound (m .table)))
+  names-decide e f = rw (e, f, and-true (allNamed (presentIn m) (m .table .links)))
 
-  pub seats-decide : ofLinks.isSound (m .table) ≡ true → allNamed (presentIn m) (m .table .links) ≡ true → isSound m ≡ soundSeats m
+  -- the table of a sound panel is sound
+  pub table-sound : isSound m ≡ true → ofLinks.isSound (m .table) ≡ true
   unfolding isSound
-  seats-decide e f = rw (e, f)
+  table-sound e = both-left (ofLinks.isSound (m .table)) (allNamed (presentIn m) (m .table .links) && soundSeats m) e
 
 -- ---- the statement
 
@@ -50,9 +59,9 @@ links-decide h = record { holds = sound-decided h .0; tested = sound-decided h .
 module _ (m : Model) (tagged : Tagged m) where
   -- each link names a present blind
   named-decides : Decides (allNamed (presentIn m) (m .table .links))
-      ((i : ℕ) → i < length (m .table .links) → presentIn m (getD (m .table .links) i ofLinks.nothing .tag) ≡ true)
+      ((i : ℕ) → i < length (m .table .links) → presentIn m (getD (m .table .links) i nothing .tag) ≡ true)
   unfolding allNamed
-  named-decides = every-at (λ l. presentIn m (l .tag)) (m .table .links) ofLinks.nothing
+  named-decides = every-at (λ l. presentIn m (l .tag)) (m .table .links) nothing
 
   -- two tags with the same terminal are the same tag
   distinct-decides : Decides (Rattle.laws.specs.Every.distinct (λ seat. seat .terminal) (seatsIn m))
@@ -96,3 +105,9 @@ sound-tested m s = sound-decides m (s .tags) .tested s
 -- a panel that passes the test is sound
 pub sound-panel : (p : Panel) → p .present .word < 2 ^ 64 → isSound (modelOf p) ≡ true → Sound (modelOf p)
 sound-panel p fits e = sound-decides (modelOf p) (panel-tagged p fits) .holds e
+
+-- and its table has as many links as it says: at most as many as it has places
+pub panel-fine : (p : Panel) → p .present .word < 2 ^ 64 → length (p .table .links) ≡ 512 → isSound (modelOf p) ≡ true → Fine (modelOf p)
+panel-fine p fits whole e =
+    let sound : Sound (modelOf p) = sound-panel p fits e in
+    record { sound = sound; full = length-take-le (p .table .count) (p .table .links) (omega (arith, whole, sound .links .at-most)) }

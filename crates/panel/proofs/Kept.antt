@@ -8,8 +8,9 @@ use mathlib.Core.Bool.{true}
 use mathlib.Core.Option.{Option, none, some, Option·map, Option·some-injective, Option·none-ne-some}
 use lib.ListN.{length, getD}
 use Rattle.tags.specs.Tags.{places}
-use Rattle.reading.specs.Sound as ofBlind
+use Rattle.sound_blind.specs.Sound as ofBlind
 use Rattle.links.specs.Links.{Held}
+use Rattle.link.specs.Link.{nothing}
 use Rattle.links.specs.Sound as ofLinks
 use Rattle.panel.specs.Panel.{Seat, Model, isThere, presentIn, bare, reseated, eachSeat, relinked}
 use Rattle.panel.specs.Sound.{Sound}
@@ -134,7 +135,7 @@ module _ (t : ℕ) (m : Model) where
       terminal-is {a} e = ap (λ (x : Seat). x .terminal) (sym (Option·some-injective seat a e))
 
   -- a seat that no link names goes
-  pub gone-sound : Sound m → ((i : ℕ) → i < length (m .table .links) → getD (m .table .links) i ofLinks.nothing .tag ≡ t → ⊥)
+  pub gone-sound : Sound m → ((i : ℕ) → i < length (m .table .links) → getD (m .table .links) i nothing .tag ≡ t → ⊥)
       → Sound (reseated t none m)
   unfolding reseated
   gone-sound s unnamed =
@@ -154,7 +155,7 @@ module _ (t : ℕ) (m : Model) where
 -- ---- other links
 
 pub links-sound : (h : Held) (m : Model) → Sound m → ofLinks.Sound h
-    → ((i : ℕ) → i < length (h .links) → presentIn m (getD (h .links) i ofLinks.nothing .tag) ≡ true)
+    → ((i : ℕ) → i < length (h .links) → presentIn m (getD (h .links) i nothing .tag) ≡ true)
     → Sound (relinked h m)
 unfolding presentIn
 links-sound h m s sound named =

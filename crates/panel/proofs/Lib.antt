@@ -4,4 +4,5 @@ pub mod Walk
 pub mod Decides
 pub mod Checks
 pub mod Kept
-pub mod Outcomes
+pub mod Rules
+pub mod Exact

@@ -164,28 +164,3 @@ places-written p terminals blinds rule fits ruled =
         never : (tag : ℕ) → tagsOf (p .present) tag ≡ true → places ≤ tag → ⊥
         never tag e h = true≢false (sym e ∙ member-past 64 (p .present .word) tag fits h)
     go tag false e d = refl
-
--- ---- filling: what a loop over all tags leaves
-
-module _ (p : Panel) (fits : p .present .word < 2 ^ 64) where
-  -- every present blind is changed by a rule; what stands at an absent tag's place is not asked
-  pub blinds-filled : (new : ℕ → Blind) (rule : ℕ → Blind → Blind) → length (p .blinds) ≡ places
-      → ((tag : ℕ) → tag < places → tagsOf (p .present) tag ≡ true → new tag ≡ rule tag (getD (p .blinds) tag nobody))
-      → modelOf (withBlinds (filled new places (p .blinds)) p)
-      ≡ eachSeat (λ tag seat. record { terminal = seat .terminal; blind = rule tag (seat .blind) }) (modelOf p)
-  blinds-filled new rule long ruled =
-      places-written p (p .terminals) (filled new places (p .blinds)) (λ tag seat. record { terminal = seat .terminal; blind = rule tag (seat .blind) }) fits
-      (λ tag h e.
-      ap (λ (b : Blind). record { terminal = getD (p .terminals) tag 0; blind = b })
-      (filled-at new places (p .blinds) tag nobody h (omega arith) ∙ ruled tag h e))
-
-  -- and so is every present blind's terminal
-  pub terminals-filled : (new : ℕ → ℕ) (rule : ℕ → ℕ → ℕ) → length (p .terminals) ≡ places
-      → ((tag : ℕ) → tag < places → tagsOf (p .present) tag ≡ true → new tag ≡ rule tag (getD (p .terminals) tag 0))
-      → modelOf (withTerminals (filled new places (p .terminals)) p)
-      ≡ eachSeat (λ tag seat. record { terminal = rule tag (seat .terminal); blind = seat .blind }) (modelOf p)
-  terminals-filled new rule long ruled =
-      places-written p (filled new places (p .terminals)) (p .blinds) (λ tag seat. record { terminal = rule tag (seat .terminal); blind = seat .blind }) fits
-      (λ tag h e.
-      ap (λ (t : ℕ). record { terminal = t; blind = getD (p .blinds) tag nobody })
-      (filled-at new places (p .terminals) tag 0 h (omega arith) ∙ ruled tag h e))

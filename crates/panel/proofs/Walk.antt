@@ -14,7 +14,7 @@ use Rattle.laws.specs.Every.{every, distinct, withNext, there}
 use Rattle.laws.proofs.Choices.{both-left}
 use Rattle.laws.proofs.Fills.{tabulate-length, tabulate-drop}
 use Rattle.laws.proofs.Every.{every-same, every-true, every-and}
-use Rattle.reading.specs.Sound.{sound}
+use Rattle.sound_blind.specs.Sound.{sound}
 use Rattle.tags.specs.Tags as tags
 use Rattle.tags.specs.Tags.{TagSet, places, put}
 use Rattle.panel.specs.Panel.{Seat, Model}

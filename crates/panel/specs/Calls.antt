@@ -1,18 +1,33 @@
--- Document 01, "Numbers the panel answers": the checks that all calls share, and what a call leaves.
+-- Document 01, "Numbers the panel answers": a call of the panel as a rule, the checks that all calls share, and what a public
+-- function promises of its call.
 -- Assumes nothing.
 use Prim.Native.Nat.{ℕ}
+use mathlib.Core.Path.{_≡_}
 use mathlib.Core.Bool.{Bool, not}
-use mathlib.Core.List.{List, _∷_}
+use mathlib.Core.List.{List, [], _∷_}
 use lib.ListN.{length}
 use lib.Dec.{eqb}
-use Rattle.answers.specs.Answers.{Check, Outcome}
+use Rattle.answers.specs.Answers.{Check}
+use Rattle.answers.specs.Rules.{Rule, Result, carried}
+use Rattle.panel.specs.declared.Panel.{Panel}
 use Rattle.panel.specs.declared.calls.Answered.{Answered}
 use Rattle.panel.specs.Panel.{Model, modelOf}
 use Rattle.panel.specs.Sound.{isSound}
 
+-- The cells that are lent to a call.
+pub record Cells : Type 0 where
+  pub lent : List ℕ
+
+abbrev pub row : List ℕ → Cells
+row cells = record { lent = cells }
+
+-- A call that is lent no cells.
+abbrev pub noCells : Cells
+noCells = row []
+
 -- "11: lent cells not exactly 64 or 128", the number of the call.
-abbrev pub lent : ℕ → List ℕ → Check
-lent n cells = (not (eqb (length cells) n), 11)
+abbrev pub lent : ℕ → Cells → Check
+lent n cells = (not (eqb (length (cells .lent)) n), 11)
 
 -- "12: not a sound panel".
 abbrev pub unsound : Model → Check
@@ -26,18 +41,19 @@ outside out = (out, 1)
 unfoldable pub checks : Model → Bool → List Check → List Check
 checks m out own = unsound m ∷ outside out ∷ own
 
-unfoldable pub lentChecks : ℕ → List ℕ → Model → Bool → List Check → List Check
+unfoldable pub lentChecks : ℕ → Cells → Model → Bool → List Check → List Check
 lentChecks n cells m out own = lent n cells ∷ checks m out own
 
--- "Panel and cells": what a call that is lent cells leaves behind.
-pub record Left : Type 0 where
-  pub panel : Model
-  pub cells : List ℕ
+-- A call of the panel.
+abbrev pub CallRule : Type 0
+CallRule = Rule Model Cells
 
--- What a result says: the answer, the count, and what the panel is then; with the cells, where some were lent.
-abbrev pub outcomeOf : Answered → Outcome Model
-outcomeOf r = record { answer = r .answer; count = r .count; leaves = modelOf (r .panel) }
+-- What a result and the cells then say.
+abbrev pub handed : Answered → Cells → Result Model Cells
+handed r cells = record { answer = r .answer; count = r .count; second = 0; leaves = modelOf (r .panel); cells = cells }
 
-abbrev pub outcomeWith : Answered → List ℕ → Outcome Left
-outcomeWith r cells =
-    record { answer = r .answer; count = r .count; leaves = record { panel = modelOf (r .panel); cells = cells } }
+-- What a public function promises of its call: the caller gets what the rule says, and where it is refused the very panel that
+-- was handed over, every place of it.
+pub record Does (rule : CallRule) (panel : Panel) (entry : Cells) (r : Answered) (exit : Cells) : Type 0 where
+  pub outcome : handed r exit ≡ carried rule (modelOf panel) entry
+  pub kept : (r .answer ≡ 0 → ⊥) → r .panel ≡ panel

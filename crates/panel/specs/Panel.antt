@@ -7,8 +7,9 @@ use mathlib.Core.Option.{Option, none, some, Option·map}
 use lib.ListN.{getD}
 use lib.Dec.{eqb}
 use Rattle.blind.specs.declared.Blind.{Blind}
-use Rattle.blind.specs.declared.Reaction.{Reaction}
-use Rattle.blind.specs.declared.Forced.{Forced}
+use Rattle.params.specs.Parameters.{noParams}
+use Rattle.heights.specs.Heights.{unknown}
+use Rattle.blind.specs.Fields.{noFlags}
 use Rattle.blind.specs.declared.Last.{Last}
 use Rattle.blind.specs.declared.Motion.{Motion}
 use Rattle.tags.specs.Tags.{TagSet, tagsOf}
@@ -27,15 +28,7 @@ pub record Model : Type 0 where
 
 -- What is read at a place that no array has.
 abbrev pub nobody : Blind
-nobody =
-    record {
-      params = record { mudt = 0; sst = 0; rpt = 0; rwa = Reaction.Ignore; rra = Reaction.Ignore; rfa = Reaction.Ignore };
-      flags = record { wind = false; rain = false; frost = false; forced = Forced.No };
-      position = 0;
-      valid = false;
-      last = Last.Either;
-      motion = Motion.Off 0;
-    }
+nobody = record { params = noParams; flags = noFlags; place = unknown; last = Last.Either; motion = Motion.Off 0 }
 
 -- What stands at the place of a tag, whether the tag is present or not.
 abbrev pub placeOf : Panel → ℕ → Seat

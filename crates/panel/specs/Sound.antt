@@ -10,8 +10,9 @@ use lib.Dec.{leb}
 use Rattle.laws.specs.Fills.{tabulate}
 use Rattle.laws.specs.Every.{every, distinct, there}
 use Rattle.tags.specs.Tags.{TagSet, places}
-use Rattle.reading.specs.Sound as ofBlind
-use Rattle.links.specs.declared.link.Link.{Link}
+use Rattle.sound_blind.specs.Sound as ofBlind
+use Rattle.link.specs.declared.Link.{Link}
+use Rattle.link.specs.Link.{nothing}
 use Rattle.links.specs.Sound as ofLinks
 use Rattle.panel.specs.Panel.{Seat, Model, presentIn}
 
@@ -23,7 +24,7 @@ pub record Sound (m : Model) : Type 0 where
   -- "Links with address and kind in range, sorted and unique, of one class for an address, at most 512,"
   pub links : ofLinks.Sound (m .table)
   -- "each naming a present blind;"
-  pub named : (i : ℕ) → i < length (m .table .links) → presentIn m (getD (m .table .links) i ofLinks.nothing .tag) ≡ true
+  pub named : (i : ℕ) → i < length (m .table .links) → presentIn m (getD (m .table .links) i nothing .tag) ≡ true
   -- "terminals distinct"
   pub distinct : (s t : ℕ) (a b : Seat) → m .seats s ≡ some a → m .seats t ≡ some b → a .terminal ≡ b .terminal → s ≡ t
   -- "and in range;"
@@ -32,6 +33,11 @@ pub record Sound (m : Model) : Type 0 where
   pub blinds : (tag : ℕ) (seat : Seat) → m .seats tag ≡ some seat → ofBlind.Sound (seat .blind)
   -- "A panel holds up to 64 blinds (tags 0 to 63)."
   pub tags : Tagged m
+
+-- A sound panel, as the contents of every panel that passes the test are: the table has as many links as it says.
+pub record Fine (m : Model) : Type 0 where
+  pub sound : Sound m
+  pub full : length (m .table .links) ≡ m .table .count
 
 -- The seats of the tags 0 to 63, those that are there.
 unfoldable pub seatsIn : Model → List Seat

@@ -1,36 +1,43 @@
-// Document 01, "Sound": a test that is total on any contents. One pass over the links and one over the tags;
-// the terminals met so far tell whether one is used twice.
+// Document 01, "Sound": a test that is total on any contents. The blinds first, tag by tag, with the terminals met so
+// far; then the links, of which the loop over their names only adds up.
 use crate::Panel;
 use crate::strip::Strip;
 use blind::Blind;
-use links::link::Link;
+use link::Link;
+use links::table::MOST;
 use links::table::Table;
 use tags::Tags;
-ghost use Prim.Native.Nat.{_≤_};
+ghost use Prim.Native.Nat.{min};
 ghost use mathlib.Core.Path.{_≡_};
-ghost use mathlib.Core.Bool.{not, _&&_};
+ghost use mathlib.Core.Bool.{not, cond, _&&_};
 ghost use Rattle.tags.specs.Tags.{tagsOf};
 ghost use Rattle.links.specs.Links.{heldOf};
+ghost use Rattle.links.specs.Sound.{most};
 ghost use Rattle.panel.specs.Panel.{modelOf};
 ghost use Rattle.panel.specs.Strip.{takenOf};
-ghost use Rattle.panel.specs.Sound.{allNamed, soundSeat, isSound};
+ghost use Rattle.panel.specs.Sound.{allNamed, soundSeat, soundSeats, isSound};
 
 // The last terminal of the strip.
 const LAST_TERMINAL: u8 = 127;
 
 impl Panel {
-    // The links first, then seat by seat. A place whose tag is absent is passed over unread. The loop stands here, and
-    // not in a function of its own, so that the panel is not copied once more.
     pub fn is_sound(self) -> bool
         ensures { λ r. ⌜ r ≡ isSound (modelOf self) ⌝ }
     {
+        if !self.seats_sound() {
+            return false;
+        }
         let table = self.table;
         if !table.is_sound() {
             return false;
         }
-        if !all_named(self.present, table) {
-            return false;
-        }
+        all_named(self.present, table)
+    }
+
+    // A place whose tag is absent is passed over unread.
+    pub fn seats_sound(self) -> bool
+        ensures { λ r. ⌜ r ≡ soundSeats (modelOf self) ⌝ }
+    {
         let mut met = Strip::empty();
         for tag in 0..64 {
             if self.present.has(tag as u64) {
@@ -47,26 +54,33 @@ impl Panel {
 }
 
 // Each link names a present blind.
-fn all_named(present: Tags, table: Table) -> bool
-    requires { ⌜ table .count ≤ 512 ⌝ }
+pub fn all_named(present: Tags, table: Table) -> bool
     ensures { λ r. ⌜ r ≡ allNamed (tagsOf present) (heldOf table .links) ⌝ }
 {
-    let count = table.count;
+    let end = held(table.count);
+    let mut missing = 0;
     let mut i = 0;
-    while i < count {
+    while i < end {
         let link = table.links[i];
-        if !names_present(link, present) {
-            return false;
-        }
+        missing += misses(link, present);
         i += 1;
     }
-    true
+    missing == 0
 }
 
-fn names_present(link: Link, present: Tags) -> bool
-    ensures { λ r. ⌜ r ≡ tagsOf present (link .tag) ⌝ }
+// A table holds no more links than it has places for, whatever its count says.
+fn held(count: usize) -> usize
+    ensures { λ r. ⌜ r ≡ min count most ⌝ }
 {
-    present.has(link.tag as u64)
+    if count < MOST { count } else { MOST }
+}
+
+// 1 for a link that names no present blind.
+fn misses(link: Link, present: Tags) -> u32
+    ensures { λ r. ⌜ r ≡ cond (tagsOf present (link .tag)) 0 1 ⌝ }
+{
+    let named = present.has(link.tag as u64);
+    if named { 0 } else { 1 }
 }
 
 // Whether a blind may stand at a terminal beside those that are taken.
@@ -79,5 +93,5 @@ fn may_stand(taken: Strip, terminal: u8, blind: Blind) -> bool
     if LAST_TERMINAL < terminal {
         return false;
     }
-    reading::soundness::is_sound(blind)
+    sound_blind::is_sound(blind)
 }

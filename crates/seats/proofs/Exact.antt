@@ -1,63 +1,20 @@
--- Each number is given exactly in its case: where each check of a list decides the statement of its case, the list answers a
--- number exactly if that case is the first that holds. Assumes nothing.
+-- What the tests of the seats decide, for every model whose tags are those that there are.
+-- Assumes nothing.
 use Prim.Native.Nat.{ℕ, _+_}
-use mathlib.Core.Path.{_≡_, refl, sym, ap, _∙_, subst}
-use mathlib.Core.Bool.{Bool, true, false, cond, _||_}
+use mathlib.Core.Path.{_≡_, refl, sym, ap, _∙_}
+use mathlib.Core.Bool.{Bool, true, false, _||_, true≢false}
 use mathlib.Core.Logic.{_⊎_, inl, inr}
-use mathlib.Core.List.{List, [], _∷_}
 use mathlib.Core.Option.{Option, none, some}
 use Rattle.laws.specs.Decides.{Decides}
-use Rattle.laws.proofs.Choices.{never-both}
 use Rattle.laws.proofs.Deciding.{le, lt, and, said}
 use Rattle.laws.proofs.Any.{either-left, either-right}
-use Rattle.answers.specs.Answers.{Check, refusal, answered}
-use Rattle.answers.proofs.Refusals.{answers}
-use Rattle.reading.specs.Reports.{busy}
+use Rattle.outputs.specs.Reports.{busy}
 use Rattle.panel.specs.Panel.{Seat, Model, isThere, presentIn}
 use Rattle.panel.specs.Strip.{terminals}
 use Rattle.panel.specs.Sound.{Tagged}
 use Rattle.seats.specs.Seats.{someSeat, standsWithin, inUse, busyAbove, busyFrom, passesEnd, wouldPass, isBusy}
-use Rattle.seats.specs.Cases.{Case, Answers, done, this, later, HasBlind, BusyBlind, Used, BusyFrom, Passing}
+use Rattle.seats.specs.Cases.{HasBlind, BusyBlind, Used, BusyFrom, Passing}
 use Rattle.seats.proofs.Found.{SomeSeat, some-found, some-made}
-
--- the checks decide the cases, one by one
-pub data Told : List Check → List Case → Type 1 where
-  all-told : Told [] []
-  told : {t : Bool} {P : Type 0} (n : ℕ) {checks : List Check} {cases : List Case} → Decides t P → Told checks cases
-      → Told ((t, n) ∷ checks) (record { number = n; holds = P } ∷ cases)
-
--- the number that is answered is that of the first case that holds
-pub given : {checks : List Check} {cases : List Case} → Told checks cases → Answers cases (refusal checks)
-unfolding refusal
-given all-told = done
-given (told {t = t} {P = P} n {checks = rest} {cases = others} d more) = go t refl (given more)
-  where
-    go : (b : Bool) → t ≡ b → Answers others (refusal rest) → Answers (record { number = n; holds = P } ∷ others) (cond b n (refusal rest))
-    go true e ih = this (d .holds e)
-    go false e ih = later (λ h. never-both t (d .tested h) e) ih
-
--- and no other number is
-pub only : {cases : List Case} {m n : ℕ} → Answers cases m → Answers cases n → m ≡ n
-only done done = refl
-only (this h) (this k) = refl
-only (this h) (later no-k b) = absurd (no-k h)
-only (later no-h a) (this k) = absurd (no-h k)
-only (later no-h a) (later no-k b) = only a b
-
--- so a number is answered exactly in its case
-pub record Exactly (answer : ℕ) (cases : List Case) : Type 1 where
-  pub in-its-case : (n : ℕ) → answer ≡ n → Answers cases n
-  pub only-there : (n : ℕ) → Answers cases n → answer ≡ n
-
-pub exactly : {A : Type 0} (checks : List Check) (cases : List Case) (before : A) (count : ℕ) (after : A) → Told checks cases
-    → Exactly (answered (refusal checks) before count after .answer) cases
-exactly checks cases before count after t =
-    record {
-      in-its-case = λ n e. subst (Answers cases) (sym (answers (refusal checks) before count after) ∙ e) (given t);
-      only-there = λ n a. answers (refusal checks) before count after ∙ only (given t) a;
-    }
-
--- ---- what the tests decide
 
 pub or : {a b : Bool} {P Q : Type 0} → Decides a P → Decides b Q → Decides (a || b) (P ⊎ Q)
 or {a} {b} {P} {Q} p q = record { holds = go a (p .holds); tested = back }
@@ -71,7 +28,7 @@ or {a} {b} {P} {Q} p q = record { holds = go a (p .holds); tested = back }
     back (inr h) = either-right a b (q .tested h)
 
 -- a test that is read as it stands
-pub itself : (t : Bool) → Decides t (t ≡ true)
+itself : (t : Bool) → Decides t (t ≡ true)
 itself t = record { holds = λ e. e; tested = λ e. e }
 
 module _ (m : Model) (tag : ℕ) where
@@ -80,14 +37,14 @@ module _ (m : Model) (tag : ℕ) where
   has-decides = record { holds = λ e. go (m .seats tag) refl e; tested = λ h. ap isThere (h .at) }
     where
       go : (o : Option Seat) → m .seats tag ≡ o → isThere o ≡ true → HasBlind tag m
-      go none f e = absurd (mathlib.Core.Bool.true≢false (sym e))
+      go none f e = absurd (true≢false (sym e))
       go (some seat) f e = record { seat = seat; at = f }
 
   pub busy-decides : Decides (isBusy (m .seats tag)) (BusyBlind tag m)
   busy-decides = record { holds = λ e. go (m .seats tag) refl e; tested = λ h. ap isBusy (h .at) ∙ h .is-busy }
     where
       go : (o : Option Seat) → m .seats tag ≡ o → isBusy o ≡ true → BusyBlind tag m
-      go none f e = absurd (mathlib.Core.Bool.true≢false (sym e))
+      go none f e = absurd (true≢false (sym e))
       go (some seat) f e = record { seat = seat; at = f; is-busy = e }
 
 module _ (m : Model) (tagged : Tagged m) where

@@ -1,6 +1,5 @@
 pub mod Strip
 pub mod Walk
-pub mod Judging
 pub mod Found
-pub mod Leaves
+pub mod Present
 pub mod Exact

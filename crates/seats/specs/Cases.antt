@@ -1,29 +1,12 @@
--- Document 01, "Numbers the panel answers": "Each is given exactly in its case", "checks in order", said with statements in
--- the place of tests. A call's cases are a list to be read; proofs/Exact shows that its checks answer by it.
+-- Document 01, "Numbers the panel answers": the cases that speak of blinds and terminals, as statements.
 -- Assumes nothing.
 use Prim.Native.Nat.{ℕ, _+_, _≤_, _<_}
 use mathlib.Core.Path.{_≡_}
 use mathlib.Core.Bool.{true}
-use mathlib.Core.List.{List, [], _∷_}
 use mathlib.Core.Option.{some}
-use Rattle.reading.specs.Reports.{busy}
+use Rattle.outputs.specs.Reports.{busy}
 use Rattle.panel.specs.Panel.{Seat, Model}
 use Rattle.panel.specs.Strip.{terminals}
-
--- A case in which a number is answered.
-pub record Case : Type 1 where
-  pub number : ℕ
-  pub holds : Type 0
-
--- The number of the first case that holds, and 0, done, where none does.
-pub data Answers : List Case → ℕ → Type 1 where
-  done : Answers [] 0
-  this : {c : Case} {rest : List Case} → c .holds → Answers (c ∷ rest) (c .number)
-  later : {c : Case} {rest : List Case} {n : ℕ} → (c .holds → ⊥) → Answers rest n → Answers (c ∷ rest) n
-
--- A case by its number and its statement.
-abbrev pub case : ℕ → Type 0 → Case
-case number holds = record { number = number; holds = holds }
 
 -- There is a blind with this tag.
 pub record HasBlind (tag : ℕ) (m : Model) : Type 0 where

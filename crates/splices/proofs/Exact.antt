@@ -1,29 +1,30 @@
--- For each splice: each number is given exactly in its case (specs/Cases). Assumes nothing.
+-- For each splice: each check decides its case (specs/Cases), so that each number is given exactly in its case. Assumes nothing.
 use Prim.Native.Nat.{ℕ, _+_}
 use Rattle.laws.specs.Decides.{Decides}
-use Rattle.laws.proofs.Deciding.{le, lt, eq, neither}
+use Rattle.laws.proofs.Deciding.{le, lt, eq}
+use Rattle.answers.proofs.Exact.{Told, all-told, told}
 use Rattle.panel.specs.Panel.{Model}
 use Rattle.panel.specs.Strip.{terminals}
 use Rattle.panel.specs.Sound.{Tagged}
-use Rattle.panel.specs.Calls.{checks}
-use Rattle.panel.proofs.Decides.{sound-decides}
-use Rattle.seats.proofs.Exact.{all-told, told, Exactly, exactly, or, used-decides, busy-from-decides, passing-decides}
-use Rattle.splices.specs.Splices.{offStrip, inChecks, splicedIn, outChecks, splicedOut}
+use Rattle.panel.specs.Calls.{Cells}
+use Rattle.panel.proofs.Exact.{checks-told}
+use Rattle.seats.proofs.Exact.{or, used-decides, busy-from-decides, passing-decides}
+use Rattle.splices.specs.Splices.{offStrip, spliceInRule, spliceOutRule}
 use Rattle.splices.specs.Cases.{OffStrip, inCases, outCases}
 
 off-decides : (t n : ℕ) → Decides (offStrip t n) (OffStrip t n)
 unfolding offStrip
 off-decides t n = or (le terminals t) (or (eq n 0) (lt terminals (t + n)))
 
-module _ (t n : ℕ) (m : Model) (tagged : Tagged m) where
-  pub splice-in-exactly : Exactly (splicedIn t n m .answer) (inCases t n m)
-  unfolding splicedIn inChecks checks
-  splice-in-exactly =
-      exactly (inChecks t n m) (inCases t n m) m 0 _
-      (told 12 (neither (sound-decides m tagged)) (told 1 (off-decides t n) (told 3 (busy-from-decides m tagged t) (told 9 (passing-decides m tagged t n) all-told))))
+module _ (m : Model) (cells : Cells) (tagged : Tagged m) (t n : ℕ) where
+  pub splice-in-told : Told (spliceInRule t n .checks m cells) (inCases t n m cells)
+  unfolding spliceInRule
+  splice-in-told =
+      checks-told m tagged (off-decides t n)
+      (λ s within. told 3 (busy-from-decides m tagged t) (told 9 (passing-decides m tagged t n) all-told))
 
-  pub splice-out-exactly : Exactly (splicedOut t n m .answer) (outCases t n m)
-  unfolding splicedOut outChecks checks
-  splice-out-exactly =
-      exactly (outChecks t n m) (outCases t n m) m 0 _
-      (told 12 (neither (sound-decides m tagged)) (told 1 (off-decides t n) (told 10 (used-decides m tagged t (t + n)) (told 3 (busy-from-decides m tagged (t + n)) all-told))))
+  pub splice-out-told : Told (spliceOutRule t n .checks m cells) (outCases t n m cells)
+  unfolding spliceOutRule
+  splice-out-told =
+      checks-told m tagged (off-decides t n)
+      (λ s within. told 10 (used-decides m tagged t (t + n)) (told 3 (busy-from-decides m tagged (t + n)) all-told))

@@ -1,6 +1,5 @@
 pub mod Strip
 pub mod Shifts
-pub mod Judged
 pub mod Soundness
 pub mod Untouched
 pub mod Exact

@@ -1,32 +1,25 @@
--- A refused splice leaves the panel as it was; after an accepted one the panel is the one that its blinds give with its links,
--- added afresh, by the call, in any order: a splice leaves the table alone. Assumes nothing.
+-- After an accepted splice the panel is the one that its blinds give with its links, added afresh, by the call, in any order: a
+-- splice leaves the table alone. Assumes nothing.
 use Prim.Native.Nat.{ℕ}
 use mathlib.Core.Path.{_≡_}
 use mathlib.Core.List.{List, List·Permᴰ}
-use Rattle.links.specs.declared.link.Link.{Link}
-use Rattle.panel.specs.Panel.{Model}
-use Rattle.seats.proofs.Leaves.{kept-whole}
-use Rattle.edits.specs.Afresh.{Rebuilt}
-use Rattle.edits.proofs.Soundness.{OfPanel}
-use Rattle.edits.proofs.Rebuilt.{table-stays}
-use Rattle.splices.specs.Splices.{splicedIn, splicedOut}
-use Rattle.splices.proofs.Soundness.{splice-in-sound, splice-out-sound}
-use Rattle.splices.proofs.Untouched.{splice-in-only, splice-out-only}
+use Rattle.answers.specs.Answers.{refusal}
+use Rattle.link.specs.declared.Link.{Link}
+use Rattle.panel.specs.Panel.{Model, eachSeat}
+use Rattle.panel.specs.Sound.{Fine}
+use Rattle.panel.specs.Calls.{Cells}
+use Rattle.wiring.specs.Afresh.{Rebuilt}
+use Rattle.wiring.proofs.Rebuilt.{rebuilt}
+use Rattle.splices.specs.Splices.{shifted, spliceInRule, spliceOutRule}
+use Rattle.splices.proofs.Soundness.{splice-in-keeps, splice-out-keeps}
 
-module _ (t n : ℕ) (m : Model) where
-  pub splice-in-refused : (splicedIn t n m .answer ≡ 0 → ⊥) → (splicedIn t n m .leaves ≡ m) × (splicedIn t n m .count ≡ 0)
-  unfolding splicedIn
-  splice-in-refused = kept-whole _ m _ _
+module _ (m : Model) (cells : Cells) (f : Fine m) (order : List Link) (perm : List·Permᴰ order (m .table .links)) (t n : ℕ) where
+  pub splice-in-rebuilt : refusal (spliceInRule t n .checks m cells) ≡ 0 → Rebuilt order (spliceInRule t n .leaves m)
+  unfolding spliceInRule shifted eachSeat
+  splice-in-rebuilt e =
+      rebuilt (spliceInRule t n .leaves m) (splice-in-keeps m cells f t n e) order perm
 
-  pub splice-out-refused : (splicedOut t n m .answer ≡ 0 → ⊥) → (splicedOut t n m .leaves ≡ m) × (splicedOut t n m .count ≡ 0)
-  unfolding splicedOut
-  splice-out-refused = kept-whole _ m _ _
-
-  module _ (panel : OfPanel m) (order : List Link) (perm : List·Permᴰ order (m .table .links)) where
-    pub splice-in-rebuilt : splicedIn t n m .answer ≡ 0 → Rebuilt order (splicedIn t n m .leaves)
-    splice-in-rebuilt e =
-        table-stays m panel order (splicedIn t n m .leaves) (splice-in-sound t n m (panel .tagged) e) (splice-in-only t n m .table) perm
-
-    pub splice-out-rebuilt : splicedOut t n m .answer ≡ 0 → Rebuilt order (splicedOut t n m .leaves)
-    splice-out-rebuilt e =
-        table-stays m panel order (splicedOut t n m .leaves) (splice-out-sound t n m (panel .tagged) e) (splice-out-only t n m .table) perm
+  pub splice-out-rebuilt : refusal (spliceOutRule t n .checks m cells) ≡ 0 → Rebuilt order (spliceOutRule t n .leaves m)
+  unfolding spliceOutRule shifted eachSeat
+  splice-out-rebuilt e =
+      rebuilt (spliceOutRule t n .leaves m) (splice-out-keeps m cells f t n e) order perm

@@ -2,17 +2,21 @@
 use Prim.Native.Nat.{ℕ, _+_, _-_, _≤_, _<_}
 use native.Mathlib.Omega.{arith}
 use native.Mathlib.Decide.{decLe}
-use mathlib.Core.Path.{_≡_, sym, subst}
+use mathlib.Core.Path.{_≡_}
+use mathlib.Core.Bool.{false}
+use mathlib.Core.List.{[], _∷_}
 use mathlib.Core.Option.{some}
 use borrow.Author.Tests.{le-leb, lt-leb}
-use Rattle.panel.specs.Panel.{Seat, Model}
-use Rattle.panel.specs.Sound.{Tagged, Sound}
-use Rattle.panel.proofs.Decides.{sound-decides}
+use Rattle.answers.specs.Answers.{refusal}
+use Rattle.answers.proofs.Refusals.{all-passed}
+use Rattle.panel.specs.Panel.{Seat, Model, eachSeat}
+use Rattle.panel.specs.Sound.{Sound, Fine}
+use Rattle.panel.specs.Calls.{Cells}
+use Rattle.panel.proofs.Checks.{passed}
 use Rattle.panel.proofs.Kept.{each-sound}
+use Rattle.seats.specs.Seats.{inUse, busyFrom, wouldPass}
 use Rattle.seats.proofs.Found.{not-in-use, stays-on}
-use Rattle.seats.proofs.Leaves.{Accepted, accepted}
-use Rattle.splices.specs.Splices.{shifted, raised, splicedIn, lowered, splicedOut}
-use Rattle.splices.proofs.Judged.{InPassed, in-passed, OutPassed, out-passed}
+use Rattle.splices.specs.Splices.{offStrip, shifted, raised, spliceInRule, lowered, spliceOutRule}
 
 -- a terminal below t stays, and one from t on rises
 pub raised-low : (t n x : ℕ) → x < t → raised t n x ≡ x
@@ -69,44 +73,62 @@ lowered-apart t n x y free-x free-y e = go (decLe (t + n) x) (decLe (t + n) y)
         let low-y : y < t + n = omega arith in
         omega (arith, lowered-low t n x low-x, lowered-low t n y low-y)
 
-module _ (t n : ℕ) (m : Model) (tagged : Tagged m) where
-  pub splice-in-sound : splicedIn t n m .answer ≡ 0 → Sound (splicedIn t n m .leaves)
-  unfolding splicedIn shifted
-  splice-in-sound e =
-      let done : Accepted _ m 0 (shifted (raised t n) m) = accepted _ m 0 _ e in
-      let ok : InPassed t n m = in-passed t n m (done .none) in
-      let s : Sound m = sound-decides m tagged .holds (ok .sound) in
-      subst Sound (sym (done .leaves))
-      (each-sound (λ tag seat. record { terminal = raised t n (seat .terminal); blind = seat .blind }) m s
-      (λ j k a b at-j at-k same. s .distinct j k a b at-j at-k (raised-apart t n (a .terminal) (b .terminal) same))
-      (λ tag seat at. low ok s tag seat at (decLe t (seat .terminal)))
-      (s .blinds))
+module _ (m : Model) (cells : Cells) (f : Fine m) (t n : ℕ) where
+  s : Sound m
+  s = f .sound
+
+  -- no terminal from t on passes the strip
+  in-room : refusal (spliceInRule t n .checks m cells) ≡ 0 → wouldPass t n m ≡ false
+  unfolding spliceInRule
+  in-room e =
+      let all = passed m (offStrip t n) ((busyFrom t m, 3) ∷ (wouldPass t n m, 9) ∷ []) e in
+      let x = all-passed (busyFrom t m) 2 ((wouldPass t n m, 9) ∷ []) (all .own-passed) in
+      all-passed (wouldPass t n m) 8 [] (x .1) .0
+
+  pub splice-in-keeps : refusal (spliceInRule t n .checks m cells) ≡ 0 → Fine (spliceInRule t n .leaves m)
+  unfolding spliceInRule shifted eachSeat
+  splice-in-keeps e =
+      record {
+        sound =
+            each-sound (λ tag seat. record { terminal = raised t n (seat .terminal); blind = seat .blind }) m s
+            (λ j k a b at-j at-k same. s .distinct j k a b at-j at-k (raised-apart t n (a .terminal) (b .terminal) same))
+            (λ tag seat at. low (in-room e) tag seat at (decLe t (seat .terminal)))
+            (s .blinds);
+        full = f .full;
+      }
     where
-      low : InPassed t n m → Sound m → (tag : ℕ) (seat : Seat) → m .seats tag ≡ some seat → Dec (t ≤ seat .terminal) → raised t n (seat .terminal) ≤ 127
-      low ok s tag seat at (yes h) = on-it (decLe 128 (seat .terminal + n))
+      low : wouldPass t n m ≡ false → (tag : ℕ) (seat : Seat) → m .seats tag ≡ some seat → Dec (t ≤ seat .terminal) → raised t n (seat .terminal) ≤ 127
+      low free tag seat at (yes h) = on-it (decLe 128 (seat .terminal + n))
         where
           on-it : Dec (128 ≤ seat .terminal + n) → raised t n (seat .terminal) ≤ 127
-          on-it (yes k) = absurd (stays-on m tagged t n (ok .room) tag seat at h k)
+          on-it (yes k) = absurd (stays-on m (s .tags) t n free tag seat at h k)
           on-it (no k) = omega (arith, raised-high t n (seat .terminal) h)
-      low ok s tag seat at (no h) =
+      low free tag seat at (no h) =
           let under : seat .terminal < t = omega arith in
           omega (arith, raised-low t n (seat .terminal) under, s .in-range tag seat at)
 
-  pub splice-out-sound : splicedOut t n m .answer ≡ 0 → Sound (splicedOut t n m .leaves)
-  unfolding splicedOut shifted
-  splice-out-sound e =
-      let done : Accepted _ m 0 (shifted (lowered t n) m) = accepted _ m 0 _ e in
-      let ok : OutPassed t n m = out-passed t n m (done .none) in
-      let s : Sound m = sound-decides m tagged .holds (ok .sound) in
-      let free : (tag : ℕ) (seat : Seat) → m .seats tag ≡ some seat → t ≤ seat .terminal → seat .terminal < t + n → ⊥ = not-in-use m tagged t (t + n) (ok .free) in
-      subst Sound (sym (done .leaves))
-      (each-sound (λ tag seat. record { terminal = lowered t n (seat .terminal); blind = seat .blind }) m s
-      (λ j k a b at-j at-k same. s .distinct j k a b at-j at-k (lowered-apart t n (a .terminal) (b .terminal) (free j a at-j) (free k b at-k) same))
-      (λ tag seat at. low s tag seat at (decLe (t + n) (seat .terminal)))
-      (s .blinds))
+  -- no terminal that is taken out is in use
+  out-free : refusal (spliceOutRule t n .checks m cells) ≡ 0 → inUse t (t + n) m ≡ false
+  unfolding spliceOutRule
+  out-free e =
+      let all = passed m (offStrip t n) ((inUse t (t + n) m, 10) ∷ (busyFrom (t + n) m, 3) ∷ []) e in
+      all-passed (inUse t (t + n) m) 9 ((busyFrom (t + n) m, 3) ∷ []) (all .own-passed) .0
+
+  pub splice-out-keeps : refusal (spliceOutRule t n .checks m cells) ≡ 0 → Fine (spliceOutRule t n .leaves m)
+  unfolding spliceOutRule shifted eachSeat
+  splice-out-keeps e =
+      let free : (tag : ℕ) (seat : Seat) → m .seats tag ≡ some seat → t ≤ seat .terminal → seat .terminal < t + n → ⊥ = not-in-use m (s .tags) t (t + n) (out-free e) in
+      record {
+        sound =
+            each-sound (λ tag seat. record { terminal = lowered t n (seat .terminal); blind = seat .blind }) m s
+            (λ j k a b at-j at-k same. s .distinct j k a b at-j at-k (lowered-apart t n (a .terminal) (b .terminal) (free j a at-j) (free k b at-k) same))
+            (λ tag seat at. low tag seat at (decLe (t + n) (seat .terminal)))
+            (s .blinds);
+        full = f .full;
+      }
     where
-      low : Sound m → (tag : ℕ) (seat : Seat) → m .seats tag ≡ some seat → Dec (t + n ≤ seat .terminal) → lowered t n (seat .terminal) ≤ 127
-      low s tag seat at (yes h) = omega (arith, lowered-high t n (seat .terminal) h, s .in-range tag seat at)
-      low s tag seat at (no h) =
+      low : (tag : ℕ) (seat : Seat) → m .seats tag ≡ some seat → Dec (t + n ≤ seat .terminal) → lowered t n (seat .terminal) ≤ 127
+      low tag seat at (yes h) = omega (arith, lowered-high t n (seat .terminal) h, s .in-range tag seat at)
+      low tag seat at (no h) =
           let under : seat .terminal < t + n = omega arith in
           omega (arith, lowered-low t n (seat .terminal) under, s .in-range tag seat at)

@@ -1,17 +1,14 @@
--- A splice and the strip: where it is on the strip, and where the terminals of the present tags go.
--- Assumes nothing.
+-- A splice and the strip: where it is on the strip. Assumes nothing.
 use Prim.Native.Nat.{ℕ, _+_, _-_, _≤_, _<_}
 use native.Mathlib.Omega.{arith}
 use native.Mathlib.Decide.{decLt}
-use mathlib.Core.Path.{_≡_, refl, sym, _∙_}
-use mathlib.Core.Bool.{Bool, true, false, cond, not, _&&_, _||_}
+use mathlib.Core.Path.{_≡_, sym, _∙_}
+use mathlib.Core.Bool.{false, _||_}
 use lib.Dec.{eqb, ltb, leb}
 use borrow.Author.Tests.{eqb-false, leb-false, ltb-false, lt-ltb, le-ltb}
-use Rattle.laws.proofs.Choices.{not-both}
 use Rattle.laws.proofs.Any.{neither-left, neither-right}
 use Rattle.panel.specs.Strip.{terminals}
-use Rattle.splices.specs.Splices.{offStrip, raised, lowered}
-use Rattle.splices.specs.Places.{raisedWithin, loweredFrom}
+use Rattle.splices.specs.Splices.{offStrip}
 
 -- what is left of the strip is less than n exactly if the sum passes its end
 pub less-left : (end t n : ℕ) → t < end → ltb (end - t) n ≡ ltb end (t + n)
@@ -37,17 +34,3 @@ on-strip t n e =
       some = omega (arith, some);
       end = ltb-false terminals (t + n) (neither-right (eqb n 0) (ltb terminals (t + n)) rest);
     }
-
--- a terminal that does not pass the strip rises as it should
-pub raised-right : (t n x : ℕ) → leb t x && leb terminals (x + n) ≡ false → raisedWithin t n x ≡ raised t n x
-unfolding raisedWithin raised
-raised-right t n x e = go (leb t x) refl
-  where
-    go : (b : Bool) → leb t x ≡ b → cond (b && not (leb terminals (x + n))) (x + n) x ≡ cond b (x + n) x
-    go true f = rw (not-both (leb t x) (leb terminals (x + n)) e f)
-    go false f = refl
-
--- one that falls from the end of the splice on
-pub lowered-right : (t n x : ℕ) → loweredFrom (t + n) n x ≡ lowered t n x
-unfolding loweredFrom lowered
-lowered-right t n x = refl

@@ -1,21 +1,15 @@
 -- "Nothing else changes": a splice, refused or not, leaves every blind, every link and the tags that are present as they are.
--- Any two outcomes that a splice's promise allows are equal: panel's Outcomes.one-outcome, since the promise is one equation.
 -- Assumes nothing.
 use Prim.Native.Nat.{ℕ}
 use mathlib.Core.Path.{_≡_, refl}
 use mathlib.Core.Option.{Option, none, some, Option·map}
+use Rattle.answers.specs.Rules.{carried}
+use Rattle.answers.proofs.Rules.{leaves-has}
 use Rattle.blind.specs.declared.Blind.{Blind}
-use Rattle.panel.specs.Panel.{Seat, Model, presentIn, eachSeat}
+use Rattle.panel.specs.Panel.{Seat, Model, eachSeat}
+use Rattle.panel.specs.Calls.{Cells}
 use Rattle.panel.proofs.Kept.{each-present}
-use Rattle.seats.specs.Untouched.{blindAt}
-use Rattle.seats.proofs.Leaves.{left-has}
-use Rattle.splices.specs.Splices.{shifted, raised, splicedIn, lowered, splicedOut}
-
--- only terminals differ
-pub record OnlyTerminals (before after : Model) : Type 0 where
-  pub blinds : (tag : ℕ) → blindAt tag after ≡ blindAt tag before
-  pub present : (tag : ℕ) → presentIn after tag ≡ presentIn before tag
-  pub table : after .table ≡ before .table
+use Rattle.splices.specs.Splices.{shifted, raised, spliceInRule, lowered, spliceOutRule, OnlyTerminals}
 
 same : (m : Model) → OnlyTerminals m m
 same m = record { blinds = λ tag. refl; present = λ tag. refl; table = refl }
@@ -34,10 +28,11 @@ shifted-only place m =
     go none = refl
     go (some seat) = refl
 
-pub splice-in-only : (t n : ℕ) (m : Model) → OnlyTerminals m (splicedIn t n m .leaves)
-unfolding splicedIn
-splice-in-only t n m = left-has _ m _ _ (OnlyTerminals m) (same m) (λ e. shifted-only (raised t n) m)
+module _ (t n : ℕ) (m : Model) (cells : Cells) where
+  pub splice-in-only : OnlyTerminals m (carried (spliceInRule t n) m cells .leaves)
+  unfolding spliceInRule
+  splice-in-only = leaves-has (spliceInRule t n) m cells (OnlyTerminals m) (same m) (λ e. shifted-only (raised t n) m)
 
-pub splice-out-only : (t n : ℕ) (m : Model) → OnlyTerminals m (splicedOut t n m .leaves)
-unfolding splicedOut
-splice-out-only t n m = left-has _ m _ _ (OnlyTerminals m) (same m) (λ e. shifted-only (lowered t n) m)
+  pub splice-out-only : OnlyTerminals m (carried (spliceOutRule t n) m cells .leaves)
+  unfolding spliceOutRule
+  splice-out-only = leaves-has (spliceOutRule t n) m cells (OnlyTerminals m) (same m) (λ e. shifted-only (lowered t n) m)

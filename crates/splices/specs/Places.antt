@@ -1,14 +1,21 @@
--- What a splice writes at one place, whether its tag is present or not. proofs/Shifts shows that for a present tag it is what
--- the splice says. Assumes nothing.
-use Prim.Native.Nat.{ℕ, _+_, _-_}
-use mathlib.Core.Bool.{cond, not, _&&_}
-use lib.Dec.{leb}
+-- What a splice writes at the places of the tags: a present tag's terminal moves, and what stands at an absent tag's place stays.
+-- Assumes nothing.
+use Prim.Native.Nat.{ℕ, _+_, _≤_, _<_}
+use mathlib.Core.Path.{_≡_}
+use mathlib.Core.Bool.{true, cond}
+use mathlib.Core.List.{List}
+use lib.ListN.{getD}
+use Rattle.laws.specs.Fills.{filled}
+use Rattle.tags.specs.Tags.{TagSet, places}
 use Rattle.panel.specs.Strip.{terminals}
 
--- A terminal from t on rises by n, unless it would pass the strip, which only an absent tag's can: that one stays.
-unfoldable pub raisedWithin : ℕ → ℕ → ℕ → ℕ
-raisedWithin t n x = cond (leb t x && not (leb terminals (x + n))) (x + n) x
+-- The terminal at the place of a tag, after the splice.
+abbrev pub placeShifted : TagSet → (ℕ → ℕ) → List ℕ → ℕ → ℕ
+placeShifted present place old tag = cond (present tag) (place (getD old tag 0)) (getD old tag 0)
 
--- A terminal from the end of the splice on falls by n.
-unfoldable pub loweredFrom : ℕ → ℕ → ℕ → ℕ
-loweredFrom end n x = cond (leb end x) (x - n) x
+unfoldable pub shiftedPlaces : TagSet → (ℕ → ℕ) → List ℕ → List ℕ
+shiftedPlaces present place old = filled (placeShifted present place old) places old
+
+-- No present tag's terminal from t on would pass the strip by rising n.
+abbrev pub Room : TagSet → List ℕ → ℕ → ℕ → Type 0
+Room present old t n = (tag : ℕ) → tag < places → present tag ≡ true → t ≤ getD old tag 0 → getD old tag 0 + n < terminals

@@ -1,14 +1,16 @@
--- Document 01, "Edits", splices: what they answer and leave.
+-- Document 01, "Edits", splices: what refuses them and what they leave.
 -- Assumes nothing.
 use Prim.Native.Nat.{ℕ, _+_, _-_}
+use mathlib.Core.Path.{_≡_}
 use mathlib.Core.Bool.{Bool, cond, _||_}
-use mathlib.Core.List.{List, [], _∷_}
+use mathlib.Core.List.{[], _∷_}
 use lib.Dec.{eqb, ltb, leb}
-use Rattle.answers.specs.Answers.{Check, refusal, Outcome, answered}
-use Rattle.panel.specs.Panel.{Model, eachSeat}
+use Rattle.answers.specs.Rules.{edit}
+use Rattle.panel.specs.Panel.{Model, presentIn, eachSeat}
 use Rattle.panel.specs.Strip.{terminals}
-use Rattle.panel.specs.Calls.{checks}
+use Rattle.panel.specs.Calls.{checks, CallRule}
 use Rattle.seats.specs.Seats.{inUse, busyFrom, wouldPass}
+use Rattle.seats.specs.Untouched.{blindAt}
 
 -- "Splice: t above 127, n 0, or t + n above 128."
 unfoldable pub offStrip : ℕ → ℕ → Bool
@@ -23,19 +25,21 @@ unfoldable pub raised : ℕ → ℕ → ℕ → ℕ
 raised t n x = cond (leb t x) (x + n) x
 
 -- "Splice in 3, 9. Splices look for busy only among the blinds that would shift."
-unfoldable pub inChecks : ℕ → ℕ → Model → List Check
-inChecks t n m = checks m (offStrip t n) ((busyFrom t m, 3) ∷ (wouldPass t n m, 9) ∷ [])
-
-unfoldable pub splicedIn : ℕ → ℕ → Model → Outcome Model
-splicedIn t n m = answered (refusal (inChecks t n m)) m 0 (shifted (raised t n) m)
+unfoldable pub spliceInRule : ℕ → ℕ → CallRule
+spliceInRule t n =
+    edit (λ m. checks m (offStrip t n) ((busyFrom t m, 3) ∷ (wouldPass t n m, 9) ∷ [])) (λ m. 0) (shifted (raised t n))
 
 -- "Splice out: terminals from t + n on fall by n."
 unfoldable pub lowered : ℕ → ℕ → ℕ → ℕ
 lowered t n x = cond (leb (t + n) x) (x - n) x
 
 -- "Splice out 10, 3. Splice out gives 10 only for terminals t to t + n − 1."
-unfoldable pub outChecks : ℕ → ℕ → Model → List Check
-outChecks t n m = checks m (offStrip t n) ((inUse t (t + n) m, 10) ∷ (busyFrom (t + n) m, 3) ∷ [])
+unfoldable pub spliceOutRule : ℕ → ℕ → CallRule
+spliceOutRule t n =
+    edit (λ m. checks m (offStrip t n) ((inUse t (t + n) m, 10) ∷ (busyFrom (t + n) m, 3) ∷ [])) (λ m. 0) (shifted (lowered t n))
 
-unfoldable pub splicedOut : ℕ → ℕ → Model → Outcome Model
-splicedOut t n m = answered (refusal (outChecks t n m)) m 0 (shifted (lowered t n) m)
+-- "Nothing else changes", to be read: two panels differ at most in terminals.
+pub record OnlyTerminals (before after : Model) : Type 0 where
+  pub blinds : (tag : ℕ) → blindAt tag after ≡ blindAt tag before
+  pub present : (tag : ℕ) → presentIn after tag ≡ presentIn before tag
+  pub table : after .table ≡ before .table

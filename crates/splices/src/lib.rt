@@ -1,5 +1,5 @@
-// Document 01, "Edits", splices: terminals are put into the strip or taken out of it, and the terminals behind them move.
-// Only terminals are written: blinds, links and the tags that are present stay.
+// Document 01, "Edits", splices: terminals are put into the strip or taken out of it, and the terminals after them move.
+// One pass over the tags judges, one writes the terminals of the present tags; blinds, links and tags stay.
 use answers::BUSY;
 use answers::DONE;
 use answers::NOT_SOUND;
@@ -9,91 +9,111 @@ use answers::TERMINAL_IN_USE;
 use panel::Panel;
 use panel::calls::Answered;
 use seats::TERMINALS;
-ghost use Prim.Native.Nat.{_≤_};
+use tags::Tags;
+ghost use Prim.Native.Nat.{_+_, _≤_, _<_};
 ghost use mathlib.Core.Path.{_≡_};
-ghost use mathlib.Core.Bool.{false};
-ghost use Rattle.answers.specs.Answers.{refusal};
-ghost use Rattle.panel.specs.Panel.{modelOf};
-ghost use Rattle.panel.specs.Calls.{outcomeOf};
-ghost use Rattle.seats.specs.Seats.{wouldPass};
-ghost use Rattle.splices.specs.Splices.{offStrip, shifted, raised, inChecks, splicedIn, lowered, outChecks, splicedOut};
-ghost use Rattle.splices.specs.Places.{raisedWithin, loweredFrom};
+ghost use mathlib.Core.Bool.{true, cond};
+ghost use Rattle.tags.specs.Tags.{tagsOf};
+ghost use Rattle.panel.specs.Strip as strip;
+ghost use Rattle.panel.specs.Calls.{noCells, Does};
+ghost use Rattle.splices.specs.Splices.{offStrip, raised, lowered, spliceInRule, spliceOutRule};
+ghost use Rattle.splices.specs.Places.{Room, shiftedPlaces};
 
 // Splices n terminals in at t; refused by 12, 1, 3, 9, in this order.
-pub fn splice_in(panel: Panel, t: u64, n: u64) -> Answered
-    ensures { λ r. ⌜ outcomeOf r ≡ splicedIn t n (modelOf panel) ⌝ }
+pub fn splice_in(mut panel: Panel, t: u64, n: u64) -> Answered
+    ensures { λ r. ⌜ Does (spliceInRule t n) panel noCells r noCells ⌝ }
 {
-    let answer = judge_in(panel, t, n);
-    if answer != DONE {
+    if !panel.is_sound() {
         return Answered {
-            answer,
+            answer: NOT_SOUND,
             count: 0,
             panel,
         };
     }
-    let raised = raise_all(panel, t, n);
+    if is_off_strip(t, n) {
+        return Answered {
+            answer: OUT_OF_RANGE,
+            count: 0,
+            panel,
+        };
+    }
+    let present = panel.present;
+    let mut past = false;
+    for tag in 0..64 {
+        let terminal = panel.terminals[tag];
+        let blind = panel.blinds[tag];
+        if seats::is_busy_above(present, tag, terminal, blind, t) {
+            return Answered {
+                answer: BUSY,
+                count: 0,
+                panel,
+            };
+        }
+        past = past | seats::passes_end(present, tag, terminal, t, n);
+    }
+    if past {
+        return Answered {
+            answer: PAST_THE_STRIP,
+            count: 0,
+            panel,
+        };
+    }
+    let raised = raise_all(present, panel.terminals, t, n);
+    panel.terminals = raised;
     Answered {
         answer: DONE,
         count: 0,
-        panel: raised,
+        panel,
     }
 }
 
 // Splices n terminals out at t; refused by 12, 1, 10, 3, in this order.
-pub fn splice_out(panel: Panel, t: u64, n: u64) -> Answered
-    ensures { λ r. ⌜ outcomeOf r ≡ splicedOut t n (modelOf panel) ⌝ }
+pub fn splice_out(mut panel: Panel, t: u64, n: u64) -> Answered
+    ensures { λ r. ⌜ Does (spliceOutRule t n) panel noCells r noCells ⌝ }
 {
-    let answer = judge_out(panel, t, n);
-    if answer != DONE {
+    if !panel.is_sound() {
         return Answered {
-            answer,
+            answer: NOT_SOUND,
             count: 0,
             panel,
         };
     }
-    let lowered = lower_all(panel, t, n);
+    if is_off_strip(t, n) {
+        return Answered {
+            answer: OUT_OF_RANGE,
+            count: 0,
+            panel,
+        };
+    }
+    let present = panel.present;
+    let end = t + n;
+    let mut busy = false;
+    for tag in 0..64 {
+        let terminal = panel.terminals[tag];
+        let blind = panel.blinds[tag];
+        if seats::stands_within(present, tag, terminal, t, end) {
+            return Answered {
+                answer: TERMINAL_IN_USE,
+                count: 0,
+                panel,
+            };
+        }
+        busy = busy | seats::is_busy_above(present, tag, terminal, blind, end);
+    }
+    if busy {
+        return Answered {
+            answer: BUSY,
+            count: 0,
+            panel,
+        };
+    }
+    let lowered = lower_all(present, panel.terminals, t, n);
+    panel.terminals = lowered;
     Answered {
         answer: DONE,
         count: 0,
-        panel: lowered,
+        panel,
     }
-}
-
-fn judge_in(panel: Panel, t: u64, n: u64) -> u8
-    ensures { λ r. ⌜ r ≡ refusal (inChecks t n (modelOf panel)) ⌝ }
-{
-    if !panel.is_sound() {
-        return NOT_SOUND;
-    }
-    if is_off_strip(t, n) {
-        return OUT_OF_RANGE;
-    }
-    if seats::busy_from(panel, t) {
-        return BUSY;
-    }
-    if seats::would_pass(panel, t, n) {
-        return PAST_THE_STRIP;
-    }
-    DONE
-}
-
-fn judge_out(panel: Panel, t: u64, n: u64) -> u8
-    ensures { λ r. ⌜ r ≡ refusal (outChecks t n (modelOf panel)) ⌝ }
-{
-    if !panel.is_sound() {
-        return NOT_SOUND;
-    }
-    if is_off_strip(t, n) {
-        return OUT_OF_RANGE;
-    }
-    let end = t + n;
-    if seats::in_use(panel, t, end) {
-        return TERMINAL_IN_USE;
-    }
-    if seats::busy_from(panel, end) {
-        return BUSY;
-    }
-    DONE
 }
 
 // Compared without a sum, which could wrap.
@@ -109,56 +129,57 @@ fn is_off_strip(t: u64, n: u64) -> bool
     TERMINALS - t < n
 }
 
-// Each terminal from t on rises by n.
-fn raise_all(panel: Panel, t: u64, n: u64) -> Panel
-    requires { ⌜ wouldPass t n (modelOf panel) ≡ false ⌝ }
-    ensures { λ r. ⌜ modelOf r ≡ shifted (raised t n) (modelOf panel) ⌝ }
+// The terminals of the present tags from t on rise by n.
+fn raise_all(present: Tags, terminals: [u8; 64], t: u64, n: u64) -> [u8; 64]
+    requires { ⌜ Room (tagsOf present) terminals t n ⌝ }
+    ensures { λ r. ⌜ r ≡ shiftedPlaces (tagsOf present) (raised t n) terminals ⌝ }
 {
-    let mut next = panel;
+    let mut next = terminals;
     for tag in 0..64 {
-        let terminal = panel.terminals[tag];
-        next.terminals[tag] = raise(terminal, t, n);
+        let terminal = terminals[tag];
+        next[tag] = raise(present, tag, terminal, t, n);
     }
     next
 }
 
-// Each terminal from t + n on falls by n.
-fn lower_all(panel: Panel, t: u64, n: u64) -> Panel
-    requires { ⌜ offStrip t n ≡ false ⌝ }
-    ensures { λ r. ⌜ modelOf r ≡ shifted (lowered t n) (modelOf panel) ⌝ }
+// The terminals of the present tags from t + n on fall by n.
+fn lower_all(present: Tags, terminals: [u8; 64], t: u64, n: u64) -> [u8; 64]
+    requires { ⌜ t + n ≤ strip.terminals ⌝ }
+    ensures { λ r. ⌜ r ≡ shiftedPlaces (tagsOf present) (lowered t n) terminals ⌝ }
 {
-    let mut next = panel;
-    let end = t + n;
+    let mut next = terminals;
     for tag in 0..64 {
-        let terminal = panel.terminals[tag];
-        next.terminals[tag] = lower(terminal, end, n);
+        let terminal = terminals[tag];
+        next[tag] = lower(present, tag, terminal, t, n);
     }
     next
 }
 
-// A terminal that would pass the strip is an absent tag's, which carries nothing: it stays.
-fn raise(terminal: u8, t: u64, n: u64) -> u8
-    ensures { λ r. ⌜ r ≡ raisedWithin t n terminal ⌝ }
+// What stands at an absent tag's place stays.
+fn raise(present: Tags, tag: usize, terminal: u8, t: u64, n: u64) -> u8
+    requires { ⌜ (tagsOf present tag ≡ true → t ≤ terminal → terminal + n < strip.terminals) ⌝ }
+    ensures { λ r. ⌜ r ≡ cond (tagsOf present tag) (raised t n terminal) terminal ⌝ }
 {
+    if !present.has(tag as u64) {
+        return terminal;
+    }
     let place = terminal as u64;
     if place < t {
-        return terminal;
-    }
-    if TERMINALS <= place {
-        return terminal;
-    }
-    if TERMINALS - place <= n {
         return terminal;
     }
     (place + n) as u8
 }
 
-fn lower(terminal: u8, end: u64, n: u64) -> u8
-    requires { ⌜ n ≤ end ⌝ }
-    ensures { λ r. ⌜ r ≡ loweredFrom end n terminal ⌝ }
+// What stands at an absent tag's place stays.
+fn lower(present: Tags, tag: usize, terminal: u8, t: u64, n: u64) -> u8
+    requires { ⌜ t + n ≤ strip.terminals ⌝ }
+    ensures { λ r. ⌜ r ≡ cond (tagsOf present tag) (lowered t n terminal) terminal ⌝ }
 {
+    if !present.has(tag as u64) {
+        return terminal;
+    }
     let place = terminal as u64;
-    if place < end {
+    if place < t + n {
         return terminal;
     }
     (place - n) as u8

@@ -6,7 +6,7 @@ use borrow.Author.Needs.{needs}
 use Rattle.laws.proofs.Fills.{long}
 use Rattle.links.specs.Links.{heldOf, startOf}
 use Rattle.links.proofs.Stores.{few}
-use Rattle.bus.proofs.Searching.{start-most, low-turn, high-turn}
+use Rattle.bus.proofs.Halving.{start-most, low-turn, high-turn}
 use Rattle.bus.proofs.spans.below.Statement.{statement}
 use Rattle.bus.proofs.spans.below.Tie as tie
 

@@ -6,7 +6,7 @@ use lib.ListN.{length, getD, take, drop}
 use borrow.Author.Needs.{needs}
 use Rattle.laws.proofs.Fills.{long}
 use Rattle.tags.specs.Tags.{places}
-use Rattle.links.specs.Sound.{nothing}
+use Rattle.link.specs.Link.{nothing}
 use Rattle.panel.specs.Panel.{modelOf}
 use Rattle.bus.specs.Telegrams.{delivered}
 use Rattle.bus.proofs.Delivery.{Delivering, deliver-start, deliver-turn, deliver-end, tag-low}
@@ -14,39 +14,39 @@ use Rattle.bus.proofs.telegrams.deliver.Statement.{statement}
 use Rattle.bus.proofs.telegrams.deliver.Tie as tie
 
 abbrev Inv-loop : tie.InvT-loop
-Inv-loop value table start count end next₀ i₀ next i = Delivering value next₀ start end next i
+Inv-loop start count value panel₀ table end i₀ panel i = Delivering value panel₀ start end panel i
 
 abbrev μ-loop : tie.MeasureT-loop
-μ-loop value table start count end next₀ i₀ next i = end - i
+μ-loop start count value panel₀ table end i₀ panel i = end - i
 
 -- the table has its 512 places
-places-of : (c : tie.Start Inv-loop μ-loop) → length (c .args .panel .table .links) ≡ 512
+places-of : (c : tie.Start Inv-loop μ-loop) → length (c .args .t1 .table .links) ≡ 512
 places-of c = search (long, needs)
 
--- just behind the span
-abbrev behind : tie.Start Inv-loop μ-loop → ℕ
-behind c = c .args .span .start + c .args .span .count
+-- just after the links
+abbrev after : tie.Start Inv-loop μ-loop → ℕ
+after c = c .args .start + c .args .count
 
 loop-holds : tie.Need-loop-holds Inv-loop μ-loop
 loop-holds c =
     let start = c .before in
-    deliver-start (start .args .value) (start .args .panel) (start .args .span .start) (behind start) (search (long, needs))
+    deliver-start (start .args .value) (start .args .t1) (start .args .start) (after start) (search (long, needs))
 
 loop-again : tie.Need-loop-again Inv-loop μ-loop
 loop-again c =
     let at = c .before .before .before .before .before in
     let start = at .before .before in
-    deliver-turn (start .args .value) (start .args .panel) (start .args .span .start) (behind start) (start .pre .0) (places-of start) (start .pre .1)
-    (at .loop .next) (at .loop .i) (c .hear .result) (c .before .before .before .before .loop-test .taken) (c .hear .ensures) (at .loop .inv)
+    deliver-turn (start .args .value) (start .args .t1) (start .args .start) (after start) (start .pre .0) (places-of start) (start .pre .1)
+    (at .loop .panel) (at .loop .i) (c .hear .result) (c .before .before .before .before .loop-test .taken) (c .hear .ensures) (at .loop .inv)
 
 returns : tie.Need-returns Inv-loop μ-loop
 returns c =
     let start = c .before .before .before in
-    let m = modelOf (start .args .panel) in
-    let counted : behind start - start .args .span .start ≡ start .args .span .count = omega arith in
-    deliver-end (start .args .value) (start .args .panel) (start .args .span .start) (behind start) (c .before .loop .next) (c .before .loop .i)
+    let m = modelOf (start .args .t1) in
+    let counted : after start - start .args .start ≡ start .args .count = omega arith in
+    deliver-end (start .args .value) (start .args .t1) (start .args .start) (after start) (c .before .loop .panel) (c .before .loop .i)
     (c .loop-test .left) (c .before .loop .inv)
-    ∙ ap (λ (k : ℕ). delivered (start .args .value) (take k (drop (start .args .span .start) (m .table .links))) m) counted
+    ∙ ap (λ (k : ℕ). delivered (start .args .value) (take k (drop (start .args .start) (m .table .links))) m) counted
 
 -- the table is not longer than it may be
 short : (c : tie.In-loop Inv-loop μ-loop) → c .before .loop .i < 512
@@ -55,10 +55,10 @@ short c =
     omega (arith, c .loop-test .taken, start .pre .1, start .pre .0 .links .at-most)
 
 -- the tag of the link is one of the 64
-low : (c : tie.In-loop Inv-loop μ-loop) → getD (c .before .before .before .args .panel .table .links) (c .before .loop .i) nothing .tag < places
+low : (c : tie.In-loop Inv-loop μ-loop) → getD (c .before .before .before .args .t1 .table .links) (c .before .loop .i) nothing .tag < places
 low c =
     let start = c .before .before .before in
-    tag-low (start .args .value) (start .args .panel) (start .args .span .start) (behind start) (start .pre .0) (places-of start) (start .pre .1)
+    tag-low (start .args .value) (start .args .t1) (start .args .start) (after start) (start .pre .0) (places-of start) (start .pre .1)
     (c .before .loop .i) (c .loop-test .taken)
 
 pub deliver-spec : {M : Type 1} → statement M

@@ -10,6 +10,5 @@ pub hear-spec : {M : Type 1} → statement M
 hear-spec =
     tie.close
     (tie.spec
-    (λ c κs. search needs)
-    (λ c κs. search needs)
+    (λ c κs. search needs) (λ c κs. search needs)
     (λ c. c .heed .ensures ∙ ap (λ (input : Input). heeded input (c .before .before .args .blind)) (c .before .of .ensures)))

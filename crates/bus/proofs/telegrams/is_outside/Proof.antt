@@ -1,5 +1,8 @@
--- The three tests of the definition, one after the other.
-use borrow.Author.Tests.{lt-ltb, le-ltb}
+-- The two tests of the definition, one after the other.
+use mathlib.Core.Path.{sym, ap, _∙_}
+use mathlib.Core.Bool.{not, _||_}
+use borrow.Author.Needs.{needs}
+use borrow.Author.Tests.{not-true, not-false}
 use Rattle.bus.specs.Telegrams.{isOutside}
 use Rattle.bus.proofs.telegrams.is_outside.Statement.{statement}
 use Rattle.bus.proofs.telegrams.is_outside.Tie as tie
@@ -9,6 +12,6 @@ unfolding isOutside
 is-outside-spec =
     tie.close
     (tie.spec
-    (λ c. simp (lt-ltb _ _ (c .if1 .taken)))
-    (λ c. simp (lt-ltb _ _ (c .if2 .taken), le-ltb _ _ (c .before .if1 .left)))
-    (λ c. simp (le-ltb _ _ (c .if2 .left), le-ltb _ _ (c .before .if1 .left))))
+    (λ c κs. search needs)
+    (λ c. rw (sym (c .before .is-address .ensures) ∙ not-true _ (c .if1 .taken)))
+    (λ c. rw (sym (c .before .is-address .ensures) ∙ not-false _ (c .if1 .left))))

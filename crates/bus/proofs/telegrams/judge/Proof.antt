@@ -1,49 +1,76 @@
--- The shared checks, then those of the links: a table that is not sound is never searched.
-use mathlib.Core.Path.{_≡_, sym, ap, _∙_}
-use mathlib.Core.Bool.{Bool}
-use mathlib.Core.List.{[]}
+-- The numbers first; then the span of the address tells whether it has a link, and its first link the class.
+use native.Mathlib.Omega.{arith}
+use mathlib.Core.Path.{_≡_, sym, _∙_}
+use mathlib.Core.Bool.{false}
+use lib.ListN.{length}
 use borrow.Author.Needs.{needs}
-use Rattle.answers.specs.Answers.{refusal}
-use Rattle.tags.specs.Tags.{places}
-use Rattle.panel.specs.Panel.{modelOf}
-use Rattle.bus.specs.Telegrams.{isOutside, linkChecks}
-use Rattle.bus.proofs.Checks.{All, cleared, shared-passed, shared-refused, table-sound, inside}
+use Rattle.answers.proofs.Refusals.{refused-by}
+use Rattle.laws.proofs.Fills.{long}
+use Rattle.links.specs.Links.{heldOf}
+use Rattle.links.proofs.Stores.{few}
+use Rattle.bus.specs.Telegrams.{isOutside}
+use Rattle.bus.proofs.Ranges.{inside}
+use Rattle.bus.proofs.Reach.{first-held, no-link, not-of-class, of-class, links-decide}
 use Rattle.bus.proofs.telegrams.judge.Statement.{statement}
 use Rattle.bus.proofs.telegrams.judge.Tie as tie
 
--- what the judge of the shared checks has said
-said : (c : tie.After-judge-lent) → c .judge-lent .result
-    ≡ refusal (All (c .before .before .args .lent) places (modelOf (c .before .before .args .panel)) (isOutside (c .before .before .args .address) (c .before .before .args .value)) [])
-said c =
-    let start = c .before .before in
-    c .judge-lent .ensures
-    ∙ ap (λ (out : Bool). refusal (All (start .args .lent) places (modelOf (start .args .panel)) out [])) (c .before .is-outside .ensures)
-
 returns : tie.Need-returns
-returns c =
-    let start = c .before .before .before in
-    let m = modelOf (start .args .panel) in
-    shared-refused (start .args .lent) places m (isOutside (start .args .address) (start .args .value)) (linkChecks (start .args .address) (start .args .value) (m .table .links)) (said (c .before)) (c .if1 .taken)
+returns c = (sym (refused-by _ 1 _ (sym (c .before .is-outside .ensures) ∙ c .if1 .taken)), λ e. absurd (omega arith))
 
-judge-links-requires : tie.Need-judge-links-requires
-judge-links-requires c κs =
-    let start = c .before .before .before in
-    let known = cleared (start .args .lent) places (modelOf (start .args .panel)) (isOutside (start .args .address) (start .args .value)) []
-    (sym (said (c .before)) ∙ c .if1 .left) in
-    (table-sound (modelOf (start .args .panel)) (known .sound), inside (start .args .address) (start .args .value) (known .within) .address-high)
+-- the numbers are in range
+within : (c : tie.Else1) → isOutside (c .before .before .args .address) (c .before .before .args .value) ≡ false
+within c = sym (c .before .is-outside .ensures) ∙ c .if1 .left
+
+-- the table has its 512 places
+room : (c : tie.Start) → length (c .args .t1 .links) ≡ 512
+room c = search (long, needs)
 
 returns-2 : tie.Need-returns-2
 returns-2 c =
     let start = c .before .before .before .before in
-    let m = modelOf (start .args .panel) in
-    shared-passed (start .args .lent) places m (isOutside (start .args .address) (start .args .value)) (linkChecks (start .args .address) (start .args .value) (m .table .links)) (sym (said (c .before .before)) ∙ c .before .if1 .left) (c .judge-links .ensures)
+    let span = c .before .of .ensures in (
+      links-decide (start .args .address) (start .args .value) (heldOf (start .args .t1) .links) (within (c .before .before))
+          (no-link (start .args .t1) (start .args .address) (start .pre) (room start) (span .from) (span .counted) (start .args .value) (c .if2 .taken)),
+      λ e. absurd (omega arith),
+    )
+
+-- the first link of the address is in the table
+first-in : tie.Need-element-copy-out-first
+first-in c =
+    let start = c .before .before .before .before in
+    let span = c .before .of .ensures in
+    omega (arith, first-held (start .args .t1) (start .args .address) (start .pre) (room start) (span .from) (span .counted) (c .if2 .left), few (start .args .t1) (start .pre))
+
+returns-3 : tie.Need-returns-3
+returns-3 c =
+    let start = c .before .before .before .before .before .before .before in
+    let span = c .before .before .before .before .of .ensures in (
+      links-decide (start .args .address) (start .args .value) (heldOf (start .args .t1) .links) (within (c .before .before .before .before .before))
+          (not-of-class (start .args .t1) (start .args .address) (start .pre) (room start) (span .from) (span .counted) (c .before .before .before .if2 .left)
+          (start .args .value) (c .before .class .ensures) (c .if3 .taken)),
+      λ e. absurd (omega arith),
+    )
+
+returns-4 : tie.Need-returns-4
+returns-4 c =
+    let start = c .before .before .before .before .before .before .before in
+    let span = c .before .before .before .before .of .ensures in (
+      links-decide (start .args .address) (start .args .value) (heldOf (start .args .t1) .links) (within (c .before .before .before .before .before))
+          (of-class (start .args .t1) (start .args .address) (start .pre) (room start) (span .from) (span .counted) (c .before .before .before .if2 .left)
+          (start .args .value) (c .before .class .ensures) (c .if3 .left)),
+      λ e. span,
+    )
 
 pub judge-spec : {M : Type 1} → statement M
 judge-spec =
     tie.close
     (tie.spec
     (λ c κs. search needs)
-    (λ c κs. search needs)
     returns
-    judge-links-requires
-    returns-2)
+    (λ c κs. (c .before .before .pre, inside _ _ (within c) .address-high))
+    returns-2
+    (λ c. omega (arith, first-in c))
+    first-in
+    (λ c κs. search needs)
+    returns-3
+    returns-4)

@@ -1,81 +1,171 @@
--- Refused: as it was. Accepted: the span of the address holds its links, and each of them is delivered to.
+-- Refused: as it was. Accepted: each link of the address is delivered to, and after each turn one more cell is written.
+use Prim.Native.Nat.{ℕ, _-_, _≤_}
 use native.Mathlib.Omega.{arith}
-use mathlib.Core.Path.{_≡_, sym, ap, _∙_}
+use mathlib.Core.Path.{_≡_, refl, sym, ap, _∙_}
+use mathlib.Core.Bool.{true}
 use mathlib.Core.List.{List}
 use borrow.Author.Needs.{needs}
-use lib.ListN.{length}
-use Rattle.laws.proofs.Fills.{long}
-use Rattle.links.specs.declared.link.Link.{Link}
-use Rattle.panel.specs.Panel.{modelOf}
-use Rattle.panel.specs.Calls.{lentChecks}
-use Rattle.panel.proofs.Decides.{sound-panel}
+use borrow.Author.Tests.{not-true, not-false}
+use lib.ListN.{length, set}
+use Rattle.laws.specs.Fills.{filled}
+use Rattle.laws.proofs.Fills.{long, filled-none, filled-length, filled-more}
+use Rattle.answers.specs.Answers.{refusal}
+use Rattle.answers.proofs.Refusals.{all-passed}
+use Rattle.tags.specs.Tags.{places}
+use Rattle.panel.specs.Panel.{modelOf, presentIn}
+use Rattle.panel.specs.Sound.{Sound, isSound}
+use Rattle.panel.specs.Calls.{row}
+use Rattle.panel.proofs.Decides.{table-sound, sound-panel}
+use Rattle.panel.proofs.Checks.{not-sound, is-sound, lent-wrong, lent-right}
+use Rattle.panel.proofs.Rules.{refuses, refuses-with, does}
 use Rattle.bus.specs.Reports.{reports}
-use Rattle.bus.specs.Telegrams.{delivered, afterTelegram, telegramChecks, telegrammed}
-use Rattle.bus.proofs.Checks.{Accepted, accepted, table-sound, refused-leaves, done-leaves}
-use Rattle.bus.proofs.Delivery.{ends-low, span-links}
+use Rattle.bus.specs.Telegrams.{isOutside, linkChecks, afterTelegram, telegramRule}
+use Rattle.bus.specs.Cases.{Telegram}
+use Rattle.bus.proofs.Ranges.{inside}
+use Rattle.bus.proofs.Reach.{ends-low, span-delivered}
+use Rattle.bus.proofs.Cells.{written, written-most, written-cell, all-told}
 use Rattle.bus.proofs.Soundness.{handed-sound, handed-present}
 use Rattle.bus.proofs.telegrams.telegram.Statement.{statement}
 use Rattle.bus.proofs.telegrams.telegram.Tie as tie
 
-returns : tie.Need-returns
-unfolding telegrammed telegramChecks lentChecks
-returns c = refused-leaves _ _ _ _ (c .before .judge .ensures) (c .if1 .taken)
+abbrev Inv-loop : tie.InvT-loop
+Inv-loop address value cells₀ panel refused present heard next tag₀ cells tag = (tag ≤ 64) × (cells ≡ filled (written panel next) tag cells₀)
+
+abbrev μ-loop : tie.MeasureT-loop
+μ-loop address value cells₀ panel refused present heard next tag₀ cells tag = 64 - tag
+
+-- the call, seen after each test that it has passed
+abbrev start1 : tie.Else1 Inv-loop μ-loop → tie.Start Inv-loop μ-loop
+start1 c = c .before .before
+
+abbrev start2 : tie.Else2 Inv-loop μ-loop → tie.Start Inv-loop μ-loop
+start2 c = start1 (c .before .before)
+
+abbrev start3 : tie.After-judge Inv-loop μ-loop → tie.Start Inv-loop μ-loop
+start3 c = start2 (c .before .before)
+
+abbrev clear : tie.After-deliver Inv-loop μ-loop → tie.Else3 Inv-loop μ-loop
+clear c = c .before .before
+
+abbrev start : tie.After-deliver Inv-loop μ-loop → tie.Start Inv-loop μ-loop
+start c = start3 (clear c .before)
+
+-- 64 cells are lent
+lent-all : (c : tie.Else1 Inv-loop μ-loop) → length (start1 c .args .cells .now) ≡ places
+lent-all c = c .if1 .left
+
+-- the panel is sound
+tested : (c : tie.Else2 Inv-loop μ-loop) → isSound (modelOf (start2 c .args .t1)) ≡ true
+tested c = sym (c .before .is-sound .ensures) ∙ not-false _ (c .if2 .left)
+
+sound : (c : tie.Else2 Inv-loop μ-loop) → Sound (modelOf (start2 c .args .t1))
+sound c = sound-panel (start2 c .args .t1) (search needs) (tested c)
+
+-- past 11 and 12 the judge gives the answer
+judged : (c : tie.After-judge Inv-loop μ-loop)
+    → refusal (telegramRule (start3 c .args .address) (start3 c .args .value) .checks (modelOf (start3 c .args .t1)) (row (start3 c .args .cells .now)))
+    ≡ c .judge .result .answer
+unfolding telegramRule
+judged c =
+    lent-right places _ _ _ _ (lent-all (c .before .before .before .before)) ∙ is-sound _ _ _ (tested (c .before .before)) ∙ sym (c .judge .ensures .0)
+
+-- nothing refuses: the numbers are in range
+range : (c : tie.Else3 Inv-loop μ-loop) → Telegram (start3 (c .before) .args .address) (start3 (c .before) .args .value)
+range c =
+    let call = start3 (c .before) .args in
+    inside _ _ (all-passed (isOutside (call .address) (call .value)) 0 (linkChecks (call .address) (call .value) (modelOf (call .t1) .table .links))
+    (sym (c .before .judge .ensures .0) ∙ c .if3 .left) .0)
 
 -- the table has its 512 places
-places-of : (c : tie.Start) → length (c .args .panel .table .links) ≡ 512
-places-of c = search (long, needs)
-
--- what the judge has shown
-known : (c : tie.Else1)
-    → Accepted (length (c .before .before .before .args .cells .now)) (c .before .before .before .args .address) (c .before .before .before .args .value) (modelOf (c .before .before .before .args .panel))
-known c = accepted _ _ _ _ (sym (c .before .judge .ensures) ∙ c .if1 .left)
-
-of-requires : tie.Need-of-requires
-of-requires c κs = (table-sound (modelOf (c .before .before .before .args .panel)) (known c .sound), known c .range .address-high)
-
-deliver-requires : tie.Need-deliver-requires
-deliver-requires c κs =
-    let start = c .before .before .before .before in
-    let shown = known (c .before) in
-    (sound-panel (start .args .panel) (search needs) (shown .sound), omega (arith, c .of .ensures .0, c .of .ensures .1, ends-low (start .args .panel .table) (start .args .address) 0 (table-sound (modelOf (start .args .panel)) (shown .sound)) (places-of start)))
-
-fill-requires : tie.Need-fill-requires
-fill-requires c κs =
-    let start = c .before .before .before .before .before .before in
-    let m = modelOf (start .args .panel) in
-    let shown = known (c .before .before .before) in
-    (shown .lent-all, (handed-present (start .args .value) _ m (c .before .deliver .ensures), handed-sound (start .args .value) _ m (shown .range .byte) (sound-panel (start .args .panel) (search needs) (shown .sound)) (c .before .deliver .ensures)))
+room : (c : tie.Start Inv-loop μ-loop) → length (c .args .t1 .table .links) ≡ 512
+room c = search (long, needs)
 
 -- the panel that is handed back
-left : (c : tie.After-deliver) → modelOf (c .deliver .result)
-    ≡ afterTelegram (c .before .before .before .before .before .args .address) (c .before .before .before .before .before .args .value) (modelOf (c .before .before .before .before .before .args .panel))
-unfolding afterTelegram
+left : (c : tie.After-deliver Inv-loop μ-loop) → modelOf (c .deliver .result) ≡ afterTelegram (start c .args .address) (start c .args .value) (modelOf (start c .args .t1))
 left c =
-    let start = c .before .before .before .before .before in
-    let shown = known (c .before .before) in
-    c .deliver .ensures
-    ∙ ap (λ (ls : List Link). delivered (start .args .value) ls (modelOf (start .args .panel)))
-    (span-links (start .args .panel .table) (start .args .address) 0 (table-sound (modelOf (start .args .panel)) (shown .sound)) (places-of start) (c .before .of .ensures .0) (c .before .of .ensures .1))
+    let call = start c .args in
+    let span = clear c .before .judge .ensures .1 (clear c .if3 .left) in
+    span-delivered (call .address) (call .value) (call .t1) (table-sound (modelOf (call .t1)) (tested (clear c .before .before .before))) (room (start c)) (span .from) (span .counted)
+    (c .deliver .ensures)
 
-returns-2 : tie.Need-returns-2
-unfolding telegrammed telegramChecks lentChecks
+-- it has the same tags
+same-tags : (c : tie.After-deliver Inv-loop μ-loop) → presentIn (modelOf (c .deliver .result)) ≡ presentIn (modelOf (start c .args .t1))
+same-tags c = handed-present (start c .args .value) _ (modelOf (start c .args .t1)) (c .deliver .ensures)
+
+-- the cells are as many as before
+same : (c : tie.At-loop Inv-loop μ-loop) → length (c .loop .cells) ≡ places
+same c = ap length (c .loop .inv .1) ∙ filled-length _ (c .loop .tag) _ ∙ lent-all (clear (c .before) .before .before .before .before .before)
+
+returns : tie.Need-returns Inv-loop μ-loop
+unfolding telegramRule
+returns c = refuses _ _ _ 11 refl (lent-wrong places _ _ _ _ (c .if1 .taken))
+
+returns-2 : tie.Need-returns-2 Inv-loop μ-loop
+unfolding telegramRule
 returns-2 c =
-    let delivers = c .before .before .before .before in
-    let start = delivers .before .before .before .before .before in
-    done-leaves _ _ _ (sym (delivers .before .before .before .judge .ensures) ∙ delivers .before .before .if1 .left)
-    (delivers .before .of .ensures .1)
-    (left delivers)
-    (c .before .before .fill .ensures ∙ ap (reports (modelOf (start .args .panel))) (left delivers))
+    refuses _ _ _ 12 refl (lent-right places _ _ _ _ (lent-all (c .before .before)) ∙ not-sound _ _ _ (sym (c .before .is-sound .ensures) ∙ not-true _ (c .if2 .taken)))
+
+returns-3 : tie.Need-returns-3 Inv-loop μ-loop
+returns-3 c = refuses-with _ _ _ _ (c .if3 .taken) (judged (c .before))
+
+deliver-requires : tie.Need-deliver-requires Inv-loop μ-loop
+deliver-requires c κs =
+    let passed = c .before in
+    let from = start3 (passed .before) in
+    let span = passed .before .judge .ensures .1 (passed .if3 .left) in
+    (sound (passed .before .before .before), omega (arith, span .from, span .counted, ends-low (from .args .t1 .table) (from .args .address) (table-sound (modelOf (from .args .t1)) (tested (passed .before .before .before))) (room from)))
+
+cell-requires : tie.Need-cell-requires Inv-loop μ-loop
+cell-requires c κs =
+    let at = c .before .before .before in
+    let delivers = at .before in
+    let call = start delivers .args in
+    written-most (call .t1) (delivers .deliver .result) (same-tags delivers)
+    (handed-sound (call .value) _ (modelOf (call .t1)) (range (clear delivers) .byte) (sound (clear delivers .before .before .before)) (delivers .deliver .ensures)) (at .loop .tag)
+
+loop-again : tie.Need-loop-again Inv-loop μ-loop
+loop-again c =
+    let at = c .before .before .before .before in
+    let delivers = at .before in (
+      omega arith,
+      ap (λ (l : List ℕ). set l (at .loop .tag) (c .cell .result)) (at .loop .inv .1)
+          ∙ filled-more (written (start delivers .args .t1) (delivers .deliver .result)) (at .loop .tag) (start delivers .args .cells .now) (c .cell .result)
+          (omega (arith, lent-all (clear delivers .before .before .before .before .before))) (c .cell .ensures),
+    )
+
+returns-4 : tie.Need-returns-4 Inv-loop μ-loop
+unfolding telegramRule
+returns-4 c =
+    let at = c .before in
+    let delivers = at .before in
+    let passed = clear delivers in
+    let call = start delivers .args in
+    does _ _ _ (judged (passed .before) ∙ passed .if3 .left) refl (passed .before .judge .ensures .1 (passed .if3 .left) .counted) (left delivers)
+    (ap row
+    (at .loop .inv .1
+    ∙ all-told (modelOf (call .t1)) (modelOf (delivers .deliver .result)) (written (call .t1) (delivers .deliver .result))
+    (written-cell (call .t1) (delivers .deliver .result) (same-tags delivers)) (call .cells .now) (lent-all (passed .before .before .before .before .before)) (omega arith)
+    ∙ ap (reports (modelOf (call .t1))) (left delivers)))
 
 pub telegram-spec : {M : Type 1} → statement M
 telegram-spec =
     tie.close
     (tie.spec
-    (λ c κs. search needs)
+    Inv-loop
+    μ-loop
     returns
-    of-requires
-    (λ c. omega (arith, known (c .before) .range .byte))
+    (λ c κs. search needs)
+    returns-2
+    (λ c κs. table-sound _ (tested (c .before)))
+    returns-3
+    (λ c. omega (arith, range (c .before) .byte))
     deliver-requires
-    fill-requires
-    (λ c. search needs)
-    returns-2)
+    (λ c. (omega arith, sym (filled-none _ _)))
+    (λ c. omega arith) (λ c. search (long, needs)) (λ c. omega arith) (λ c. search (long, needs))
+    cell-requires
+    (λ c. omega arith)
+    (λ c. omega (arith, same (c .before .before .before .before)))
+    (λ c. omega arith) (λ c. omega arith)
+    loop-again
+    (λ c. same (c .before) ∙ sym (lent-all (clear (c .before .before) .before .before .before .before .before)))
+    returns-4)

@@ -1,51 +1,126 @@
--- Refused: as it was. Accepted: every blind is dt milliseconds on, and the cells are filled.
-use mathlib.Core.Path.{refl, sym, ap, _∙_}
+-- Refused: as it was. Accepted: after each turn one more blind is dt milliseconds on, and its cell is written.
+use Prim.Native.Nat.{_-_, _^_, _<_}
+use native.Mathlib.Omega.{arith}
+use mathlib.Core.Path.{_≡_, refl, sym, ap, _∙_}
+use mathlib.Core.Bool.{true}
 use mathlib.Core.List.{[]}
 use borrow.Author.Needs.{needs}
-use lib.Dec.{ltb}
-use Rattle.tags.specs.Tags.{places}
+use borrow.Author.Tests.{not-true, not-false, lt-ltb, le-ltb}
 use lib.ListN.{length}
+use Rattle.laws.proofs.Fills.{long}
+use Rattle.answers.specs.Answers.{refusal}
+use Rattle.answers.proofs.Refusals.{none-left}
+use Rattle.tags.specs.Tags.{places}
 use Rattle.panel.specs.Panel.{modelOf}
-use Rattle.panel.specs.Calls.{lentChecks}
+use Rattle.panel.specs.Sound.{isSound}
+use Rattle.panel.specs.Calls.{row}
 use Rattle.panel.proofs.Decides.{sound-panel}
-use Rattle.bus.specs.Reports.{reports}
-use Rattle.bus.specs.TimeSteps.{longest, stepChecks, timeStepped}
-use Rattle.bus.proofs.Checks.{Cleared, cleared, refused-leaves, done-leaves}
-use Rattle.bus.proofs.Soundness.{later-sound, later-present}
+use Rattle.panel.proofs.Checks.{not-sound, outside-range, own-checks, lent-wrong, lent-right}
+use Rattle.panel.proofs.Rules.{refuses, does}
+use Rattle.bus.specs.TimeSteps.{longest, stepRule}
+use Rattle.bus.proofs.Steps.{Stepped, step-start, step-room, step-lent, step-fits, step-turn, step-panel, step-cells}
 use Rattle.bus.proofs.time_steps.time_step.Statement.{statement}
 use Rattle.bus.proofs.time_steps.time_step.Tie as tie
 
-returns : tie.Need-returns
-unfolding timeStepped stepChecks lentChecks
-returns c = refused-leaves _ _ _ _ (search needs) (search needs)
+abbrev Inv-loop : tie.InvT-loop
+Inv-loop dt cells₀ panel₀ present tag₀ cells panel tag = Stepped dt panel₀ cells₀ panel cells tag
 
--- what the judge has shown
-known : (c : tie.Else1)
-    → Cleared (length (c .before .before .before .args .cells .now)) places (modelOf (c .before .before .before .args .panel)) (ltb longest (c .before .before .before .args .dt)) []
-known c = cleared _ _ _ _ [] (sym (c .before .judge-lent .ensures) ∙ c .if1 .left)
+abbrev μ-loop : tie.MeasureT-loop
+μ-loop dt cells₀ panel₀ present tag₀ cells panel tag = 64 - tag
 
-fill-requires : tie.Need-fill-requires
-fill-requires c κs =
-    let start = c .before .before .before .before .before in
-    let m = modelOf (start .args .panel) in
-    let shown = known (c .before .before) in
-    (shown .lent-all, (later-present (start .args .dt) m (c .before .pass .ensures), later-sound (start .args .dt) m (sound-panel (start .args .panel) (search needs) (shown .sound)) (c .before .pass .ensures)))
+-- the call, seen after each test that it has passed
+abbrev start1 : tie.Else1 Inv-loop μ-loop → tie.Start Inv-loop μ-loop
+start1 c = c .before .before
 
-returns-2 : tie.Need-returns-2
-unfolding timeStepped stepChecks lentChecks
+abbrev start2 : tie.Else2 Inv-loop μ-loop → tie.Start Inv-loop μ-loop
+start2 c = start1 (c .before .before)
+
+abbrev start3 : tie.Else3 Inv-loop μ-loop → tie.Start Inv-loop μ-loop
+start3 c = start2 (c .before)
+
+-- 64 cells are lent
+lent-all : (c : tie.Else1 Inv-loop μ-loop) → length (start1 c .args .cells .now) ≡ places
+lent-all c = c .if1 .left
+
+-- the panel is sound
+tested : (c : tie.Else2 Inv-loop μ-loop) → isSound (modelOf (start2 c .args .t1)) ≡ true
+tested c = sym (c .before .is-sound .ensures) ∙ not-false _ (c .if2 .left)
+
+-- its presence word has 64 digits
+fits : (c : tie.Start Inv-loop μ-loop) → c .args .t1 .present .word < 2 ^ 64
+fits c = search needs
+
+-- no check refuses
+passed : (c : tie.Else3 Inv-loop μ-loop)
+    → refusal (stepRule (start3 c .args .dt) .checks (modelOf (start3 c .args .t1)) (row (start3 c .args .cells .now))) ≡ 0
+unfolding stepRule
+passed c =
+    lent-right places _ _ _ [] (lent-all (c .before .before .before)) ∙ own-checks _ _ [] (tested (c .before)) (le-ltb longest _ (c .if3 .left)) ∙ none-left
+
+-- the panel has its 64 blinds
+room : (c : tie.Start Inv-loop μ-loop) → length (c .args .t1 .blinds) ≡ places
+room c = search (long, needs)
+
+-- and keeps them
+room-on : (c : tie.At-loop Inv-loop μ-loop) → length (c .loop .panel .blinds) ≡ places
+room-on c = step-room _ _ (c .loop .inv) (room (start3 (c .before .before)))
+
+returns : tie.Need-returns Inv-loop μ-loop
+unfolding stepRule
+returns c = refuses _ _ _ 11 refl (lent-wrong places _ _ _ [] (c .if1 .taken))
+
+returns-2 : tie.Need-returns-2 Inv-loop μ-loop
+unfolding stepRule
 returns-2 c =
-    let start = c .before .before .before .before .before .before .before .before in
-    done-leaves _ _ _ (sym (c .before .before .before .before .before .before .judge-lent .ensures) ∙ c .before .before .before .before .before .if1 .left)
-    refl (c .before .before .before .before .pass .ensures)
-    (c .before .before .fill .ensures ∙ ap (reports (modelOf (start .args .panel))) (c .before .before .before .before .pass .ensures))
+    refuses _ _ _ 12 refl (lent-right places _ _ _ [] (lent-all (c .before .before)) ∙ not-sound _ _ [] (sym (c .before .is-sound .ensures) ∙ not-true _ (c .if2 .taken)))
+
+returns-3 : tie.Need-returns-3 Inv-loop μ-loop
+unfolding stepRule
+returns-3 c =
+    refuses _ _ _ 1 refl
+    (lent-right places _ _ _ [] (lent-all (c .before .before .before)) ∙ outside-range _ _ [] (tested (c .before)) (lt-ltb longest _ (c .if3 .taken)))
+
+cell-requires : tie.Need-cell-requires Inv-loop μ-loop
+cell-requires c κs =
+    let at = c .before .before .before in
+    let clear = at .before .before in
+    let call = start3 clear .args in
+    step-fits (call .dt) (call .t1) (at .loop .inv) (c .later .ensures) (sound-panel (call .t1) (fits (start3 clear)) (tested (clear .before)))
+
+loop-again : tie.Need-loop-again Inv-loop μ-loop
+loop-again c =
+    let at = c .before .before .before .before in
+    let clear = at .before .before in
+    step-turn _ _ (at .loop .inv) (c .before .later .ensures) (c .cell .ensures) (room (start3 clear)) (lent-all (clear .before .before .before)) (c .before .before .before .loop-test .taken)
+
+returns-4 : tie.Need-returns-4 Inv-loop μ-loop
+unfolding stepRule
+returns-4 c =
+    let at = c .before in
+    let clear = at .before .before in
+    does _ _ _ (passed clear) refl refl
+    (step-panel _ _ (at .loop .inv) (room (start3 clear)) (fits (start3 clear)) (c .loop-test .left))
+    (ap row (step-cells _ _ (at .loop .inv) (lent-all (clear .before .before .before)) (c .loop-test .left)))
 
 pub time-step-spec : {M : Type 1} → statement M
 time-step-spec =
     tie.close
     (tie.spec
-    (λ c κs. search needs)
+    Inv-loop
+    μ-loop
     returns
     (λ c κs. search needs)
-    fill-requires
-    (λ c. search needs)
-    returns-2)
+    returns-2
+    returns-3
+    (λ c. step-start _ _ _)
+    (λ c. omega arith)
+    (λ c. omega (arith, room-on (c .before)))
+    (λ c κs. search needs) (λ c. omega arith)
+    (λ c. omega (arith, room-on (c .before .before .before)))
+    cell-requires
+    (λ c. omega arith)
+    (λ c. omega (arith, step-lent _ _ (c .before .before .before .before .loop .inv), lent-all (c .before .before .before .before .before .before .before .before .before)))
+    (λ c. omega arith) (λ c. omega arith)
+    loop-again
+    (λ c. step-lent _ _ (c .before .loop .inv))
+    returns-4)

@@ -1,24 +1,24 @@
--- The blind is looked up at its tag's place only if the tag is present.
-use mathlib.Core.Path.{sym, _∙_}
+-- Each test answers one check of the list, in its order.
+use mathlib.Core.Path.{sym, ap, _∙_}
+use mathlib.Core.Bool.{not}
 use borrow.Author.Needs.{needs}
-use borrow.Author.Tests.{not-true, not-false}
-use Rattle.laws.proofs.Fills.{long}
-use Rattle.edits.proofs.BlindEdits.{named-absent, named-busy, named-idle}
+use Rattle.answers.proofs.Refusals.{refused-by, passed-by, none-left}
 use Rattle.edits.proofs.blinds.judge_named.Statement.{statement}
 use Rattle.edits.proofs.blinds.judge_named.Tie as tie
 
 returns : tie.Need-returns
-returns c = named-absent _ _ (sym (c .before .has .ensures) ∙ not-true _ (c .if1 .taken))
+returns c = sym (refused-by _ 2 _ (ap not (sym (c .before .has .ensures)) ∙ c .if1 .taken))
 
 returns-2 : tie.Need-returns-2
 returns-2 c =
-    let one = c .before .before .before in
-    named-busy _ _ (sym (one .before .has .ensures) ∙ not-false _ (one .if1 .left)) (sym (c .before .is-busy .ensures) ∙ c .if2 .taken)
+    let one = c .before .before in
+    sym (passed-by _ 2 _ (ap not (sym (one .before .has .ensures)) ∙ one .if1 .left) ∙ refused-by _ 3 _ (sym (c .before .is-busy .ensures) ∙ c .if2 .taken))
 
 returns-3 : tie.Need-returns-3
 returns-3 c =
-    let one = c .before .before .before in
-    named-idle _ _ (sym (one .before .has .ensures) ∙ not-false _ (one .if1 .left)) (sym (c .before .is-busy .ensures) ∙ c .if2 .left)
+    let one = c .before .before in
+    sym (passed-by _ 2 _ (ap not (sym (one .before .has .ensures)) ∙ one .if1 .left)
+    ∙ passed-by _ 3 _ (sym (c .before .is-busy .ensures) ∙ c .if2 .left) ∙ none-left)
 
 pub judge-named-spec : {M : Type 1} → statement M
 judge-named-spec =
@@ -26,8 +26,6 @@ judge-named-spec =
     (tie.spec
     (λ c κs. search needs)
     returns
-    (λ c. search needs)
-    (λ c. search (long, needs))
     (λ c κs. search needs)
     returns-2
     returns-3)

@@ -6,7 +6,7 @@ use lib.ListN.{length}
 use borrow.Author.Needs.{needs}
 use Rattle.laws.proofs.Fills.{long}
 use Rattle.links.specs.Links.{heldOf, startOf, linksTo}
-use Rattle.bus.proofs.Delivery.{ends-at}
+use Rattle.bus.proofs.Reach.{ends-at}
 use Rattle.bus.proofs.spans.Span.of.Statement.{statement}
 use Rattle.bus.proofs.spans.Span.of.Tie as tie
 
@@ -15,17 +15,15 @@ end : (c : tie.After-below2) → c .below2 .result
     ≡ startOf (c .before .before .args .address) (heldOf (c .before .before .args .table) .links) + length (linksTo (c .before .before .args .address) (heldOf (c .before .before .args .table) .links))
 end c =
     let start = c .before .before in
-    c .below2 .ensures ∙ ends-at (start .args .table) (start .args .address) 0 (start .pre .0) (search (long, needs))
+    c .below2 .ensures ∙ ends-at (start .args .table) (start .args .address) (start .pre .0) (search (long, needs))
 
 returns : tie.Need-returns
-returns c = (c .before .below .ensures, omega (arith, end c, c .before .below .ensures))
+returns c = record { from = c .before .below .ensures; counted = omega (arith, end c, c .before .below .ensures) }
 
 pub of-spec : {M : Type 1} → statement M
 of-spec =
     tie.close
     (tie.spec
-    (λ c κs. search needs)
-    (λ c. omega arith)
-    (λ c κs. search needs)
+    (λ c κs. search needs) (λ c. omega arith) (λ c κs. search needs)
     (λ c. omega (arith, end c, c .before .below .ensures))
     returns)

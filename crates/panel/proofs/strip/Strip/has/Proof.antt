@@ -9,7 +9,6 @@ pub has-spec : {M : Type 1} → statement M
 has-spec =
     tie.close
     (tie.spec
-    (λ c κs. search needs)
-    (λ c κs. search needs)
+    (λ c κs. search needs) (λ c κs. search needs)
     (λ c. c .has .ensures ∙ sym (taken-low _ _ (c .before .if1 .taken)))
     (λ c. c .has2 .ensures ∙ sym (taken-high _ _ (c .before .if1 .left))))

@@ -1,0 +1,5 @@
+pub mod Checks
+pub mod Commands
+pub mod Readings
+pub mod Outcomes
+pub mod Exact

@@ -1,0 +1,84 @@
+-- The seats, the table's own answer and the names tell whether the panel is sound; then the judge's number is the rule's, and
+-- where it is 0 the table's edit was done with this very link.
+use mathlib.Core.Path.{_≡_, refl, sym, _∙_}
+use mathlib.Core.Bool.{true, not, _&&_}
+use lib.Dec.{eqb}
+use borrow.Author.Needs.{needs}
+use borrow.Author.Tests.{not-true, not-false}
+use Rattle.answers.specs.Answers.{refusal}
+use Rattle.link.specs.declared.Link.{Link}
+use Rattle.link.specs.Link.{inRange}
+use Rattle.panel.specs.Panel.{modelOf}
+use Rattle.panel.specs.Sound.{isSound}
+use Rattle.panel.specs.Calls.{noCells}
+use Rattle.panel.proofs.Decides.{seats-fail}
+use Rattle.panel.proofs.Checks.{not-sound}
+use Rattle.panel.proofs.Rules.{refuses, refuses-with, does}
+use Rattle.seats.proofs.Present.{present-at}
+use Rattle.link.specs.Link.{linkOf}
+use Rattle.link.proofs.Ranges.{made-fits}
+use Rattle.wiring.specs.Wiring.{addRule}
+use Rattle.wiring.proofs.LinkEdits.{whole-sound, table-written, add-sound-told, add-refusal, add-done}
+use Rattle.wiring.proofs.add_link.Statement.{statement}
+use Rattle.wiring.proofs.add_link.Tie as tie
+
+-- the link that is asked for
+abbrev asked : tie.Start → Link
+asked start = linkOf (start .args .address) (start .args .tag) (start .args .kind)
+
+same : (c : tie.After-made) → inRange (asked (c .before .before .before .before .before)) ≡ true → c .made .result ≡ asked (c .before .before .before .before .before)
+same c fits = c .made .ensures ∙ made-fits _ _ _ fits
+
+-- whether the panel is sound
+whole : (c : tie.After-all-named)
+    → not (eqb (c .before .before .add .result .answer) 12) && c .all-named .result ≡ isSound (modelOf (c .before .before .before .before .before .before .before .before .args .panel))
+whole c =
+    let edit = c .before .before in
+    let passed = edit .before .before .before .before in
+    whole-sound (passed .before .before .args .panel) (sym (passed .before .seats-sound .ensures) ∙ not-false _ (passed .if1 .left))
+    (add-sound-told _ _ (edit .add .result) (modelOf (passed .before .before .args .panel)) noCells (same (edit .before)) (edit .add .ensures))
+    (c .all-named .ensures)
+
+sound : (c : tie.Else2) → isSound (modelOf (c .before .before .before .before .before .before .before .before .before .args .panel)) ≡ true
+sound c = sym (whole (c .before)) ∙ not-false _ (c .if2 .left)
+
+-- the number of the rule
+number : (c : tie.After-judge-new)
+    → refusal (addRule (asked (c .before .before .before .before .before .before .before .before .before .before .before .before .before)) .checks (modelOf (c .before .before .before .before .before .before .before .before .before .before .before .before .before .args .panel)) noCells) ≡ c .judge-new .result
+number c =
+    let two = c .before .before .before .before in
+    let edit = two .before .before .before in
+    add-refusal _ _ (edit .add .result) _ noCells (same (edit .before)) (edit .add .ensures) (sound two)
+    (c .before .before .fits2 .ensures) (sym (present-at _ _ (c .before .has .ensures))) (c .judge-new .ensures)
+
+returns : tie.Need-returns
+unfolding addRule
+returns c = refuses _ _ _ 12 refl (not-sound _ _ _ (seats-fail _ (sym (c .before .seats-sound .ensures) ∙ not-true _ (c .if1 .taken))))
+
+returns-2 : tie.Need-returns-2
+unfolding addRule
+returns-2 c = refuses _ _ _ 12 refl (not-sound _ _ _ (sym (whole (c .before)) ∙ not-true _ (c .if2 .taken)))
+
+returns-3 : tie.Need-returns-3
+returns-3 c = refuses-with _ _ _ _ (c .if3 .taken) (number (c .before))
+
+returns-4 : tie.Need-returns-4
+unfolding addRule
+returns-4 c =
+    let edit = c .before .before .before .before .before .before .before .before in
+    let p = edit .before .before .before .before .before .before .args .panel in
+    let zero = number (c .before) ∙ c .if3 .left in
+    let left = add-done _ _ (edit .add .result) (modelOf p) noCells (same (edit .before)) (edit .add .ensures) zero in
+    does _ _ _ zero refl (left .0) (table-written p (edit .add .result .table) (left .1)) refl
+
+pub add-link-spec : {M : Type 1} → statement M
+add-link-spec =
+    tie.close
+    (tie.spec
+    (λ c κs. search needs)
+    returns
+    (λ c κs. search needs) (λ c κs. search needs) (λ c κs. search needs)
+    returns-2
+    (λ c κs. search needs) (λ c κs. search needs) (λ c κs. search needs)
+    returns-3
+    returns-4)
