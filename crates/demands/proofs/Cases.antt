@@ -2,46 +2,53 @@
 -- Assumes nothing.
 use mathlib.Core.Path.{_≡_, refl}
 use mathlib.Core.Bool.{true}
-use Rattle.answers.specs.Answers.{refusal}
+use Rattle.answers.specs.Answers.{first}
+use Rattle.answers.specs.Rules.{carried}
 use Rattle.laws.specs.Fills.{tabulate}
 use Rattle.laws.specs.Every.{every, distinct, there}
 use Rattle.laws.specs.Any.{any}
+use Rattle.laws.specs.Kept.{kept}
 use Rattle.tags.specs.Tags.{howMany, lowestFree}
-use Rattle.blind.specs.Parameters.{defaults, within, inRange, fullTime, bottom}
+use Rattle.params.specs.Numbers.{reactionOf, numbersOf, held, paramsOf, allowed}
+use Rattle.params.specs.Parameters.{defaults, within, inRange}
+use Rattle.heights.specs.Heights.{fullTime, bottom, nextPlace, endOf, target, wayTo, part, told}
 use Rattle.blind.specs.Orders.{started, orderedOff, orderedRunning, orderedAt, ordered, motorOff, stoppedAt, stopped, freshOf}
-use Rattle.blind.specs.Millisecond.{moved, arrived, shortened, ran, waited, millisecondAt, millisecond, milliseconds}
-use Rattle.reading.specs.Reports.{motorOf, active, busy, reading, report}
-use Rattle.reading.specs.Sound.{sound, soundMotion, soundWait, soundRunning}
-use Rattle.rules.specs.Inputs.{mud, ssud, target, towards, aimedBetween, aimed, followed, sapbp, acted}
-use Rattle.rules.specs.Rules.{dutyOf, obeyed, ruled, flagged, commanded, heeded}
+use Rattle.blind.specs.Millisecond.{moved, arrived, shorter, ran, waited, millisecondAt, millisecond, milliseconds}
+use Rattle.outputs.specs.Reports.{motorOf, active, busy, report}
+use Rattle.sound_blind.specs.Sound.{soundWait, soundRunning, soundMotion, sound}
+use Rattle.inputs.specs.Inputs.{mud, ssud, towards, aimedBetween, aimed, followed, sapbp, acted}
+use Rattle.duties.specs.Rulers.{rulerOf, dutyUnder, dutyOf}
+use Rattle.rules.specs.Rules.{ruled, flagged, commanded, heeded}
 use Rattle.rules.specs.Telegrams.{commandOf, inputOf}
-use Rattle.links.specs.Links.{kept, keyOf, classOf, linksTo, addressClass}
-use Rattle.links.specs.Links.{inRange as linkInRange}
-use Rattle.links.specs.Sound.{mayFollow, inOrder}
+use Rattle.kinds.specs.Kinds.{classOf}
+use Rattle.link.specs.Link.{keyOf, mayFollow}
+use Rattle.link.specs.Link.{inRange as linkInRange}
+use Rattle.links.specs.Links.{linksTo, addressClass}
+use Rattle.links.specs.Sound.{inOrder}
 use Rattle.links.specs.Sound.{isSound as tableSound}
 use Rattle.links.specs.Edits.{isIn, inserted, isFirst, movedAmong, otherClass, noLinkTo}
 use Rattle.links.specs.Edits.{moved as movedLinks}
-use Rattle.panel.specs.Panel.{presentIn, reseated, eachSeat, bare}
+use Rattle.panel.specs.Panel.{presentIn, reseated, eachSeat}
 use Rattle.panel.specs.Sound.{seatsIn, soundSeat, soundSeats, allNamed, isSound}
 use Rattle.panel.specs.Calls.{checks, lentChecks}
 use Rattle.bus.specs.Reports.{reports}
-use Rattle.bus.specs.Telegrams.{isOutside, linkChecks, telegramChecks, served, delivered, afterTelegram}
-use Rattle.bus.specs.TimeSteps.{stepChecks, afterStep}
-use Rattle.bus.specs.Strip.{commandAt, commands, stripChecks}
+use Rattle.bus.specs.Telegrams.{isOutside, linkChecks, served, delivered, afterTelegram, telegramRule}
+use Rattle.bus.specs.TimeSteps.{afterStep, stepRule}
+use Rattle.readings.specs.Strip.{commandAt, commands, stripRule}
 use Rattle.seats.specs.Seats.{someSeat, inUse, busyFrom, wouldPass}
-use Rattle.edits.specs.Parameters.{reactionOf, paramsOf, askedOf, allowed}
-use Rattle.edits.specs.Edits.{installChecks, addChecks}
-use Rattle.splices.specs.Splices.{offStrip, shifted, raised, inChecks}
-use Rattle.demands.specs.Calls.{checksOf, panelAfter, cellsAfter, countOf, lowestOf, does}
-use Rattle.demands.specs.Demand3.{motorSeen}
+use Rattle.edits.specs.Edits.{installRule}
+use Rattle.wiring.specs.Wiring.{addRule}
+use Rattle.splices.specs.Splices.{offStrip, shifted, raised, spliceInRule}
+use Rattle.panel.specs.Panel.{bare}
+use Rattle.demands.specs.Runs.{motorSeen}
 use Rattle.demands.specs.Cases.{right, cases, allRight, story}
 
 -- "W1 to W12 are shown to follow from the rules, as one list with one claim over it."
 pub cases-right : allRight ≡ true
-unfolding allRight cases right does checksOf panelAfter cellsAfter countOf lowestOf refusal tabulate every distinct there any howMany lowestFree defaults within inRange fullTime bottom started orderedOff orderedRunning orderedAt ordered motorOff stoppedAt stopped freshOf moved arrived shortened ran waited millisecondAt millisecond milliseconds motorOf active busy reading report sound soundMotion soundWait soundRunning mud ssud target towards aimedBetween aimed followed sapbp acted dutyOf obeyed ruled flagged commanded heeded commandOf inputOf kept keyOf classOf linksTo addressClass linkInRange mayFollow inOrder tableSound isIn inserted isFirst movedAmong otherClass noLinkTo movedLinks presentIn reseated eachSeat seatsIn soundSeat soundSeats allNamed isSound checks lentChecks reports isOutside linkChecks telegramChecks served delivered afterTelegram stepChecks afterStep commandAt commands stripChecks someSeat inUse busyFrom wouldPass reactionOf paramsOf askedOf allowed installChecks addChecks offStrip shifted raised inChecks motorSeen
+unfolding allRight cases right first carried tabulate every distinct there any kept howMany lowestFree reactionOf numbersOf held paramsOf allowed defaults within inRange fullTime bottom nextPlace endOf target wayTo part told started orderedOff orderedRunning orderedAt ordered motorOff stoppedAt stopped freshOf moved arrived shorter ran waited millisecondAt millisecond milliseconds motorOf active busy report soundWait soundRunning soundMotion sound mud ssud towards aimedBetween aimed followed sapbp acted rulerOf dutyUnder dutyOf ruled flagged commanded heeded commandOf inputOf classOf linkInRange keyOf mayFollow linksTo addressClass inOrder tableSound isIn inserted isFirst movedAmong otherClass noLinkTo movedLinks presentIn reseated eachSeat seatsIn soundSeat soundSeats allNamed isSound checks lentChecks reports isOutside linkChecks served delivered afterTelegram telegramRule afterStep stepRule commandAt commands stripRule someSeat inUse busyFrom wouldPass installRule addRule offStrip shifted raised spliceInRule motorSeen
 cases-right = refl
 
 -- Only the west goes up under its wind alarm; the south, at its new terminal, hears only what is its own.
 pub story-right : right story bare ≡ true
-unfolding right does checksOf panelAfter cellsAfter countOf lowestOf refusal tabulate every distinct there any howMany lowestFree defaults within inRange fullTime bottom started orderedOff orderedRunning orderedAt ordered motorOff stoppedAt stopped freshOf moved arrived shortened ran waited millisecondAt millisecond milliseconds motorOf active busy reading report sound soundMotion soundWait soundRunning mud ssud target towards aimedBetween aimed followed sapbp acted dutyOf obeyed ruled flagged commanded heeded commandOf inputOf kept keyOf classOf linksTo addressClass linkInRange mayFollow inOrder tableSound isIn inserted isFirst movedAmong otherClass noLinkTo movedLinks presentIn reseated eachSeat seatsIn soundSeat soundSeats allNamed isSound checks lentChecks reports isOutside linkChecks telegramChecks served delivered afterTelegram stepChecks afterStep commandAt commands stripChecks someSeat inUse busyFrom wouldPass reactionOf paramsOf askedOf allowed installChecks addChecks offStrip shifted raised inChecks motorSeen
+unfolding right first carried tabulate every distinct there any kept howMany lowestFree reactionOf numbersOf held paramsOf allowed defaults within inRange fullTime bottom nextPlace endOf target wayTo part told started orderedOff orderedRunning orderedAt ordered motorOff stoppedAt stopped freshOf moved arrived shorter ran waited millisecondAt millisecond milliseconds motorOf active busy report soundWait soundRunning soundMotion sound mud ssud towards aimedBetween aimed followed sapbp acted rulerOf dutyUnder dutyOf ruled flagged commanded heeded commandOf inputOf classOf linkInRange keyOf mayFollow linksTo addressClass inOrder tableSound isIn inserted isFirst movedAmong otherClass noLinkTo movedLinks presentIn reseated eachSeat seatsIn soundSeat soundSeats allNamed isSound checks lentChecks reports isOutside linkChecks served delivered afterTelegram telegramRule afterStep stepRule commandAt commands stripRule someSeat inUse busyFrom wouldPass installRule addRule offStrip shifted raised spliceInRule motorSeen
 story-right = refl

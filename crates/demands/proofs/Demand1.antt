@@ -1,32 +1,52 @@
 -- Demand 1: every call, on any panel contents, is done or refused with one of the table's numbers, exactly in its case.
 -- Assumes nothing.
-use Prim.Native.Nat.{ℕ, zero, suc, _≤_}
-use native.Mathlib.Omega.{arith}
-use mathlib.Core.Path.{_≡_, refl, sym, ap, _∙_, subst}
-use mathlib.Core.Bool.{Bool, true, false, cond, _&&_}
-use mathlib.Core.List.{List, [], _∷_}
-use lib.Dec.{eqb, leb}
-use borrow.Author.Tests.{leb-true, ne-eqb}
-use Rattle.laws.proofs.Choices.{both-left, both-right}
-use Rattle.blind.specs.Parameters.{within}
-use Rattle.answers.specs.Answers.{Check, refusal}
+use Prim.Native.Nat.{ℕ, _≤_}
+use mathlib.Core.Path.{_≡_, refl, sym, subst}
+use mathlib.Core.Bool.{Bool, true, not, _||_}
+use lib.Dec.{leb}
+use borrow.Author.Tests.{leb-true}
+use Rattle.laws.specs.Every.{every}
+use Rattle.answers.proofs.Refusals.{refusal-has}
+use Rattle.answers.proofs.Rules.{answer-is, done, refused}
+use Rattle.answers.proofs.Exact.{Told, exactly-rule}
 use Rattle.panel.specs.Panel.{Model}
-use Rattle.panel.specs.Calls.{checks, lentChecks}
-use Rattle.bus.specs.Telegrams.{linkChecks, telegramChecks}
-use Rattle.bus.specs.TimeSteps.{stepChecks}
-use Rattle.bus.specs.Strip.{stripChecks}
-use Rattle.edits.specs.Edits.{installChecks, removeChecks, writeChecks, addChecks, removeLinkChecks}
-use Rattle.splices.specs.Splices.{inChecks, outChecks}
-use Rattle.demands.specs.Calls.{Call, telegram, timeStep, strip, install, removeBlind, writeParams, addLink, removeLink, spliceIn, spliceOut, inventory, checksOf, countOf, lowestOf, panelAfter, cellsAfter, Result, does}
-use Rattle.demands.specs.Demand1.{First, here, later, Passed, none, more, Answers, done, refused}
+use Rattle.panel.specs.Sound.{Tagged}
+use Rattle.panel.specs.Calls.{Cells, checks, lentChecks}
+use Rattle.bus.specs.Telegrams.{linkChecks, telegramRule}
+use Rattle.bus.specs.TimeSteps.{stepRule}
+use Rattle.bus.proofs.Exact.{telegram-told, step-told}
+use Rattle.readings.specs.Strip.{stripRule}
+use Rattle.readings.specs.Inventory.{inventoryRule}
+use Rattle.readings.proofs.Exact.{strip-told, inventory-told}
+use Rattle.edits.specs.Edits.{installRule, removeRule, writeRule}
+use Rattle.edits.proofs.Exact.{install-told, remove-told, write-told}
+use Rattle.wiring.specs.Wiring.{addRule, removeLinkRule}
+use Rattle.wiring.proofs.Exact.{add-told, remove-link-told}
+use Rattle.splices.specs.Splices.{spliceInRule, spliceOutRule}
+use Rattle.splices.proofs.Exact.{splice-in-told, splice-out-told}
+use Rattle.demands.specs.Calls.{Call, telegram, timeStep, strip, install, removeBlind, writeParams, addLink, removeLink, spliceIn, spliceOut, inventory, ruleOf, does}
+use Rattle.demands.specs.Demand1.{casesOf, Answers}
 
--- every number of a list of checks stands in the table
-unfoldable inTable : List Check → Bool
-inTable [] = true
-inTable (check ∷ rest) = within 1 12 (check .1) && inTable rest
+-- the checks of each call decide its cases
+told : (call : Call) (m : Model) (cells : Cells) → Tagged m → Told (ruleOf call .checks m cells) (casesOf call m cells)
+told (telegram address value) m cells tagged = telegram-told address value m cells tagged
+told (timeStep dt) m cells tagged = step-told dt m cells tagged
+told strip m cells tagged = strip-told m cells tagged
+told (install tag terminal asked) m cells tagged = install-told m cells tagged tag terminal asked
+told (removeBlind tag) m cells tagged = remove-told m cells tagged tag
+told (writeParams tag asked) m cells tagged = write-told m cells tagged tag asked
+told (addLink link) m cells tagged = add-told m cells tagged link
+told (removeLink link) m cells tagged = remove-link-told m cells tagged link
+told (spliceIn t n) m cells tagged = splice-in-told m cells tagged t n
+told (spliceOut t n) m cells tagged = splice-out-told m cells tagged t n
+told inventory m cells tagged = inventory-told m cells tagged
 
-all-in-table : (call : Call) (m : Model) (cells : List ℕ) → inTable (checksOf call m cells) ≡ true
-unfolding checksOf telegramChecks stepChecks stripChecks linkChecks installChecks removeChecks writeChecks addChecks removeLinkChecks inChecks outChecks lentChecks checks inTable within
+-- the numbers of each call stand in the table
+inTable : ℕ → Bool
+inTable n = leb n 12
+
+all-in-table : (call : Call) (m : Model) (cells : Cells) → every (λ check. inTable (check .1) || not (check .0)) (ruleOf call .checks m cells) ≡ true
+unfolding inTable every telegramRule linkChecks stepRule stripRule inventoryRule installRule removeRule writeRule addRule removeLinkRule spliceInRule spliceOutRule checks lentChecks
 all-in-table (telegram address value) m cells = refl
 all-in-table (timeStep dt) m cells = refl
 all-in-table strip m cells = refl
@@ -39,43 +59,13 @@ all-in-table (spliceIn t n) m cells = refl
 all-in-table (spliceOut t n) m cells = refl
 all-in-table inventory m cells = refl
 
--- What a list of checks comes to: none has its case there and the refusal is 0, or the refusal is the number of the first that has.
-data Judged (list : List Check) : ℕ → Type 0 where
-  passes : Passed list → Judged list 0
-  refuses : (number : ℕ) → 1 ≤ number → number ≤ 12 → First list number → Judged list number
-
-judged : (list : List Check) → inTable list ≡ true → Judged list (refusal list)
-unfolding refusal inTable within
-judged [] e = passes none
-judged (check ∷ rest) e = go (check .0) refl (judged rest (both-right (within 1 12 (check .1)) (inTable rest) e))
-  where
-    range : within 1 12 (check .1) ≡ true
-    range = both-left (within 1 12 (check .1)) (inTable rest) e
-
-    next : {n : ℕ} → check .0 ≡ false → Judged rest n → Judged (check ∷ rest) n
-    next off (passes p) = passes (more off p)
-    next off (refuses n l k f) = refuses n l k (later off f)
-
-    go : (t : Bool) → check .0 ≡ t → Judged rest (refusal rest) → Judged (check ∷ rest) (cond t (check .1) (refusal rest))
-    go true on j =
-        refuses (check .1) (leb-true 1 (check .1) (both-left (leb 1 (check .1)) (leb (check .1) 12) range))
-        (leb-true (check .1) 12 (both-right (leb 1 (check .1)) (leb (check .1) 12) range)) (here on)
-    go false off j = next off j
-
--- Demand 1, for every call and any panel contents, sound or not.
-pub answers : (call : Call) (m : Model) (cells : List ℕ) → Answers call m cells (does call m cells)
-unfolding does
-answers call m cells = go (judged (checksOf call m cells) (all-in-table call m cells))
-  where
-    by : ℕ → Result
-    by n =
-        cond (eqb n 0)
-        (record { answer = 0; count = countOf call m; lowest = lowestOf call m; panel = panelAfter call m; cells = cellsAfter call m cells })
-        (record { answer = n; count = 0; lowest = 0; panel = m; cells = cells })
-
-    go : {n : ℕ} → Judged (checksOf call m cells) n → Answers call m cells (by n)
-    go (passes p) = done p
-    go (refuses n least most f) =
-        subst (Answers call m cells)
-        (sym (ap (λ (t : Bool). cond t (by 0) (record { answer = n; count = 0; lowest = 0; panel = m; cells = cells })) (ne-eqb n 0 (λ e. omega arith))))
-        (refused n least most f)
+-- Demand 1, for every call and any panel contents, sound or not (every panel's tags are below 64).
+pub answers : (call : Call) (m : Model) (cells : Cells) → Tagged m → Answers call m cells
+unfolding inTable
+answers call m cells tagged =
+    record {
+      in-the-table = subst (λ (n : ℕ). n ≤ 12) (sym (answer-is (ruleOf call) m cells)) (leb-true _ 12 (refusal-has inTable (ruleOf call .checks m cells) refl (all-in-table call m cells)));
+      in-its-case = exactly-rule (ruleOf call) m cells (told call m cells tagged);
+      done = done (ruleOf call) m cells;
+      refused = refused (ruleOf call) m cells;
+    }

@@ -1,62 +1,57 @@
--- Demand 2, the pause, over any run of calls. No call but a time step lets a millisecond pass, and none forgives what the blind
--- owes: a telegram does not, a write of parameters happens only when nothing is owed, and every other call leaves the blind alone.
+-- Demand 2, the pause: what a blind owes is never forgiven by a call and is paid in the milliseconds of the time steps (Pauses.antt),
+-- over any run in which the blind stays.
 -- Assumes nothing.
 use Prim.Native.Nat.{ℕ, zero, suc, _≤_, zero-le}
 use native.Mathlib.Nat.{le-refl, le-trans}
 use native.Mathlib.Decide.{ℕ-discrete}
-use native.Mathlib.Omega.{arith}
 use mathlib.Core.Path.{_≡_, refl, sym, ap, ap₂, _∙_, subst}
 use mathlib.Core.Bool.{Bool, true, false, cond}
 use mathlib.Core.List.{List, [], _∷_, _++_}
 use mathlib.Core.Option.{Option, none, some, Option·map}
-use lib.ListN.{length}
 use lib.Dec.{eqb, ltb}
-use borrow.Author.Tests.{eq-eqb, ne-eqb, eqb-true, ltb-false}
+use borrow.Author.Tests.{eqb-true, ltb-false}
 use Rattle.laws.proofs.Choices.{cond-has, never-both}
-use Rattle.answers.specs.Answers.{refusal, Outcome}
-use Rattle.blind.specs.declared.Direction.{Direction}
-use Rattle.blind.specs.declared.Last.{Last}
+use Rattle.answers.specs.Answers.{refusal}
+use Rattle.answers.specs.Rules.{Result}
+use Rattle.answers.proofs.Rules.{answer-is, refused, leaves-has}
+use Rattle.heights.specs.declared.Direction.{Direction}
 use Rattle.blind.specs.declared.Motion.{Motion}
 use Rattle.blind.specs.declared.Blind.{Blind}
 use Rattle.blind.specs.Orders.{isLast}
 use Rattle.blind.specs.Millisecond.{millisecond, milliseconds}
-use Rattle.reading.specs.Reports.{motorOf, busyAt, busy}
-use Rattle.reading.specs.Sound as ofBlind
+use Rattle.outputs.specs.Reports.{busyAt, busy}
+use Rattle.sound_blind.specs.Sound as ofBlind
 use Rattle.rules.specs.Rules.{heeded}
 use Rattle.rules.specs.Telegrams.{inputOf}
 use Rattle.rules.specs.Edits.{rewritten}
-use Rattle.conduct.proofs.Soundness.{heeded-sound, input-of-class}
+use Rattle.conduct.proofs.SoundCourses.{heeded-sound, input-of-class}
 use Rattle.conduct.proofs.Owed.{owed, owedAt, heeded-keeps}
-use Rattle.links.specs.declared.link.Link.{Link}
+use Rattle.link.specs.declared.Link.{Link}
 use Rattle.panel.specs.Panel.{Seat, Model, presentIn, isThere, reseated, eachSeat}
-use Rattle.panel.proofs.Seats.{reseated-at}
-use Rattle.panel.specs.Sound.{Sound}
-use Rattle.panel.specs.Calls.{Left, lentChecks}
+use Rattle.panel.specs.Sound.{Sound, Fine}
+use Rattle.panel.specs.Calls.{Cells}
 use Rattle.bus.specs.Seats.{onBlind}
-use Rattle.bus.specs.TimeSteps.{afterStep, timeStepped}
-use Rattle.bus.specs.Telegrams.{telegramChecks, telegrammed}
+use Rattle.bus.specs.TimeSteps.{afterStep, stepRule}
+use Rattle.tags.specs.Tags.{places}
+use Rattle.panel.proofs.Checks.{lent-passed}
+use Rattle.bus.specs.Telegrams.{isOutside, linkChecks, telegramRule}
+use Rattle.bus.proofs.Ranges.{inside}
 use Rattle.bus.specs.Locality.{reached, heardBy}
-use Rattle.bus.proofs.Checks.{accepted}
-use Rattle.bus.proofs.Outcomes.{answer-is, telegram-refused, time-step-refused}
-use Rattle.bus.proofs.Locality.{telegram-local, time-step-local}
 use Rattle.bus.proofs.Soundness.{step-sound}
 use Rattle.seats.specs.Seats.{isBusy}
 use Rattle.seats.specs.Untouched.{blindAt}
-use Rattle.seats.proofs.Leaves as edits
-use Rattle.edits.specs.declared.asked.Asked.{Asked}
-use Rattle.edits.specs.Parameters.{paramsOf}
-use Rattle.edits.specs.Edits.{freshSeat, installChecks, installed, writeChecks, seatRewritten, paramsWritten}
-use Rattle.edits.proofs.BlindEdits.{installable, writable}
-use Rattle.edits.proofs.Untouched.{add-seats, remove-link-seats}
-use Rattle.demands.specs.Calls.{Call, telegram, timeStep, strip, install, removeBlind, writeParams, addLink, removeLink, spliceIn, spliceOut, inventory, Result, does}
-use Rattle.demands.specs.Demand2.{Moment, pauseIn, momentOf, moments, momentsOf, Stays, Run, end, next, trace, Paused}
-use Rattle.demands.specs.Demand3.{motorSeen}
-use Rattle.demands.proofs.Bridges
-use Rattle.demands.proofs.Soundness.{Fine, kept-fine}
-use Rattle.demands.proofs.Alike.{spared}
-use Rattle.demands.proofs.Stepping.{seat-of, leaves-blind}
-use Rattle.demands.proofs.Demand3.{motor-seen}
-use Rattle.demands.proofs.Paying.{Fair, none-fair, more-owed, momentIn, momentsIn, step-fair}
+use Rattle.params.specs.Numbers.{paramsOf}
+use Rattle.edits.specs.Edits.{seatRewritten, installRule, writeRule}
+use Rattle.edits.proofs.Passed.{installable, writable}
+use Rattle.demands.specs.Calls.{Call, telegram, timeStep, strip, install, removeBlind, writeParams, addLink, removeLink, spliceIn, spliceOut, inventory, ruleOf, does}
+use Rattle.demands.specs.Runs.{Turn, Run, Each, gives, lasts, lasting}
+use Rattle.demands.specs.Demand2.{Moment, pauseIn, momentOf, moments, trace, Stays, Paused}
+use Rattle.demands.proofs.Seats.{seat-of, reseated-blind}
+use Rattle.demands.proofs.Soundness.{kept-fine}
+use Rattle.demands.proofs.Alike.{spared, add-blind, remove-link-blind}
+use Rattle.demands.proofs.BlindSeen.{telegram-seen, step-seen}
+use Rattle.demands.proofs.MotorSeen.{motor-seen}
+use Rattle.demands.proofs.Pauses.{Fair, none-fair, more-owed, momentsIn, step-fair}
 
 -- ---- the moments on the strip are those of the blind
 
@@ -119,66 +114,63 @@ as-it-was tag b m e = record { now = b; blind = e; owes = λ d. le-refl _ }
 left-alone : (tag : ℕ) (b : Blind) (m n : Model) → blindAt tag m ≡ some b → blindAt tag n ≡ blindAt tag m → Later tag b n
 left-alone tag b m n e same = as-it-was tag b n (same ∙ e)
 
+-- a telegram that is done carries a byte
+accepted-byte : (address value : ℕ) (m : Model) (cells : Cells) → refusal (telegramRule address value .checks m cells) ≡ 0 → value ≤ 255
+unfolding telegramRule
+accepted-byte address value m cells e =
+    inside address value (lent-passed places cells m (isOutside address value) (linkChecks address value (m .table .links)) e .1 .within) .byte
+
 -- ---- call by call
 
-later-telegram : (tag : ℕ) (b : Blind) (m : Model) (cells : List ℕ) → Fine m → blindAt tag m ≡ some b → (address value : ℕ)
-    → Later tag b (does (telegram address value) m cells .panel)
-unfolding telegrammed telegramChecks lentChecks
-later-telegram tag b m cells fine e address value =
-    let (seat, there, is) = seat-of (m .seats tag) b e in
-    let t = telegrammed address value m cells in
-    let new = heardBy value (reached tag address m) b in
-    record {
-      now = cond (eqb (t .answer) 0) new b;
-      blind =
-          leaves-blind tag m cells seat there (does (telegram address value) m cells) t (heardBy value (reached tag address m) (seat .blind))
-          (Bridges.telegram-does m cells address value) (telegram-local address value m cells tag seat (fine .sound) there)
-          (telegram-refused address value m cells)
-          ∙ ap (λ (x : Blind). some (cond (eqb (t .answer) 0) (heardBy value (reached tag address m) x) x)) is;
-      owes = λ d.
-          cond-has (λ (x : Blind). owed d b ≤ owed d x) (eqb (t .answer) 0) new b
-          (λ yes-done.
-          heard-owed value (reached tag address m) b
-          (accepted (length cells) address value m (sym (answer-is _ _ _ _) ∙ eqb-true (t .answer) 0 yes-done) .range .byte)
-          (subst ofBlind.Sound is (fine .sound .blinds tag seat there)) d)
-          (λ refused. le-refl _);
-    }
+module _ (tag : ℕ) (b : Blind) (m : Model) (cells : Cells) (here : blindAt tag m ≡ some b) where
+  later-telegram : Fine m → (address value : ℕ) → Later tag b (does (telegram address value) m cells .leaves)
+  later-telegram fine address value =
+      let t = does (telegram address value) m cells in
+      let new = heardBy value (reached tag address m) b in
+      let (seat, there, is) = seat-of (m .seats tag) b here in
+      record {
+        now = cond (eqb (t .answer) 0) new b;
+        blind = telegram-seen tag b m cells (fine .sound) here address value .blind;
+        owes = λ d.
+            cond-has (λ (x : Blind). owed d b ≤ owed d x) (eqb (t .answer) 0) new b
+            (λ done.
+            heard-owed value (reached tag address m) b
+            (accepted-byte address value m cells (sym (answer-is (telegramRule address value) m cells) ∙ eqb-true (t .answer) 0 done))
+            (subst ofBlind.Sound is (fine .sound .blinds tag seat there)) d)
+            (λ refused. le-refl _);
+      }
 
--- nobody can be installed at a tag that has a blind
-later-install : (tag : ℕ) (b : Blind) (m : Model) (cells : List ℕ) → blindAt tag m ≡ some b → (terminal : ℕ) (asked : Asked)
-    → Later tag b (does (install tag terminal asked) m cells .panel)
-unfolding installed presentIn
-later-install tag b m cells e terminal asked =
-    left-alone tag b m _ e
-    (ap (λ (o : Outcome Model). blindAt tag (o .leaves)) (Bridges.install-does m cells tag terminal asked)
-    ∙ edits.left-has _ m _ _ (λ (n : Model). blindAt tag n ≡ blindAt tag m) refl
-    (λ passed. never-both (isThere (m .seats tag)) here (installable tag terminal asked m passed .new)))
-  where
-    here : isThere (m .seats tag) ≡ true
-    here = let (seat, there, is) = seat-of (m .seats tag) b e in ap isThere there
+  -- nobody can be installed at a tag that has a blind
+  later-install : (terminal : ℕ) (asked : List ℕ) → Later tag b (does (install tag terminal asked) m cells .leaves)
+  unfolding presentIn
+  later-install terminal asked =
+      left-alone tag b m _ here
+      (leaves-has (installRule tag terminal asked) m cells (λ (n : Model). blindAt tag n ≡ blindAt tag m) refl
+      (λ passed. never-both (isThere (m .seats tag)) present (installable tag terminal asked m cells passed .new)))
+    where
+      present : isThere (m .seats tag) ≡ true
+      present = let (seat, there, is) = seat-of (m .seats tag) b here in ap isThere there
 
-reseated-blind : (tag : ℕ) (m : Model) (o : Option Seat) → blindAt tag (reseated tag o m) ≡ Option·map {B = Blind} (λ (x : Seat). x .blind) o
-reseated-blind tag m o = ap (Option·map {B = Blind} (λ (x : Seat). x .blind)) (reseated-at tag o m)
+  -- parameters are written only while nothing is owed
+  later-write : (asked : List ℕ) → Later tag b (does (writeParams tag asked) m cells .leaves)
+  unfolding writeRule
+  later-write asked = leaves-has (writeRule tag asked) m cells (Later tag b) (as-it-was tag b m here) written
+    where
+      written : refusal (writeRule tag asked .checks m cells) ≡ 0 → Later tag b (writeRule tag asked .leaves m)
+      written passed =
+          let (seat, there, is) = seat-of (m .seats tag) b here in
+          let idle : busy (seat .blind) ≡ false = sym (ap isBusy there) ∙ writable tag m cells asked passed .named .idle in
+          record {
+            now = rewritten (paramsOf asked) b;
+            blind = reseated-blind tag m (Option·map (seatRewritten (paramsOf asked)) (m .seats tag))
+                ∙ ap (λ (o : Option Seat). Option·map {B = Blind} (λ (x : Seat). x .blind) (Option·map (seatRewritten (paramsOf asked)) o)) there
+                ∙ ap (λ (x : Blind). some (rewritten (paramsOf asked) x)) is;
+            owes = idle-owed b (rewritten (paramsOf asked) b) (ap busy (sym is) ∙ idle);
+          }
 
--- parameters are written only while nothing is owed
-later-write : (tag : ℕ) (b : Blind) (m : Model) (cells : List ℕ) → blindAt tag m ≡ some b → (asked : Asked)
-    → Later tag b (does (writeParams tag asked) m cells .panel)
-unfolding paramsWritten
-later-write tag b m cells e asked =
-    subst (λ (o : Outcome Model). Later tag b (o .leaves)) (sym (Bridges.write-does m cells tag asked))
-    (edits.left-has _ m _ _ (Later tag b) (as-it-was tag b m e) written)
-  where
-    written : refusal (writeChecks tag asked m) ≡ 0 → Later tag b (reseated tag (Option·map (seatRewritten (paramsOf asked)) (m .seats tag)) m)
-    written passed =
-        let (seat, there, is) = seat-of (m .seats tag) b e in
-        let idle : busy (seat .blind) ≡ false = sym (ap isBusy there) ∙ writable tag m asked passed .named .idle in
-        record {
-          now = rewritten (paramsOf asked) b;
-          blind = reseated-blind tag m (Option·map (seatRewritten (paramsOf asked)) (m .seats tag))
-              ∙ ap (λ (o : Option Seat). Option·map {B = Blind} (λ (x : Seat). x .blind) (Option·map (seatRewritten (paramsOf asked)) o)) there
-              ∙ ap (λ (x : Blind). some (rewritten (paramsOf asked) x)) is;
-          owes = idle-owed b (rewritten (paramsOf asked) b) (ap busy (sym is) ∙ idle);
-        }
+  -- a removal that is refused leaves it
+  later-refused : (call : Call) → (does call m cells .answer ≡ 0 → ⊥) → Later tag b (does call m cells .leaves)
+  later-refused call h = left-alone tag b m _ here (ap (λ (r : Result Model Cells). blindAt tag (r .leaves)) (refused (ruleOf call) m cells h))
 
 -- a call that gives a tag, which may or may not be this one
 same-or-spared : (tag other : ℕ) (b : Blind) (n : Model) → (tag ≡ other → Later tag b n) → ((tag ≡ other → ⊥) → Later tag b n) → Later tag b n
@@ -188,62 +180,72 @@ same-or-spared tag other b n same apart = go (ℕ-discrete tag other)
     go (yes e) = same e
     go (no h) = apart h
 
--- ---- time steps
-
-step-before : (tag : ℕ) (b : Blind) (m : Model) (cells : List ℕ) (dt : ℕ) → Fine m → blindAt tag m ≡ some b
-    → {rest : List Moment} → ((b′ : Blind) → blindAt tag (does (timeStep dt) m cells .panel) ≡ some b′ → Fair rest b′)
-    → Fair (momentsOf tag (timeStep dt) m cells ++ rest) b
-step-before tag b m cells dt fine e {rest} f =
-    let (seat, there, is) = seat-of (m .seats tag) b e in
-    let t = timeStepped dt m cells in
-    let after : blindAt tag (does (timeStep dt) m cells .panel) ≡ some (cond (eqb (t .answer) 0) (milliseconds dt b) b) =
-    leaves-blind tag m cells seat there (does (timeStep dt) m cells) t (milliseconds dt (seat .blind)) (Bridges.time-step-does m cells dt)
-    (time-step-local dt m cells tag seat (fine .sound) there) (time-step-refused dt m cells)
-    ∙ ap (λ (x : Blind). some (cond (eqb (t .answer) 0) (milliseconds dt x) x)) is in
-    let same : does (timeStep dt) m cells .answer ≡ t .answer = ap (λ (o : Outcome Left). o .answer) (Bridges.time-step-does m cells dt) in
-    let sound : ofBlind.Sound b = subst ofBlind.Sound is (fine .sound .blinds tag seat there) in
-    subst (λ (n : ℕ). Fair (cond (eqb n 0) (moments tag dt m) [] ++ rest) b) (sym same) (go (eqb (t .answer) 0) sound (f _ after))
-  where
-    go : (done : Bool) → ofBlind.Sound b → Fair rest (cond done (milliseconds dt b) b) → Fair (cond done (moments tag dt m) [] ++ rest) b
-    go true s g = subst (λ (l : List Moment). Fair (l ++ rest) b) (sym (moments-seen tag dt m b (fine .sound) e)) (step-fair dt b s g)
-    go false s g = g
-
 -- ---- a whole run
 
--- what comes after a call is fair, so the call's own milliseconds and what comes after are
-before-fair : (tag : ℕ) (b : Blind) (m : Model) (cells : List ℕ) (call : Call) → Stays tag call → Fine m → blindAt tag m ≡ some b
-    → {rest : List Moment} → ((b′ : Blind) → blindAt tag (does call m cells .panel) ≡ some b′ → Fair rest b′) → Fair (momentsOf tag call m cells ++ rest) b
-before-fair tag b m cells (telegram address value) stays fine e f =
-    let l = later-telegram tag b m cells fine e address value in more-owed b (l .now) (l .owes) (f (l .now) (l .blind))
-before-fair tag b m cells (timeStep dt) stays fine e f = step-before tag b m cells dt fine e f
-before-fair tag b m cells strip stays fine e f = f b (spared tag strip m cells tt .blind ∙ e)
-before-fair tag b m cells (install other terminal asked) stays fine e f =
-    let l =
-    same-or-spared tag other b _
-    (λ same. subst (λ (t : ℕ). Later tag b (does (install t terminal asked) m cells .panel)) same (later-install tag b m cells e terminal asked))
-    (λ apart. left-alone tag b m _ e (spared tag (install other terminal asked) m cells apart .blind)) in
-    more-owed b (l .now) (l .owes) (f (l .now) (l .blind))
-before-fair tag b m cells (removeBlind other) stays fine e f = f b (spared tag (removeBlind other) m cells stays .blind ∙ e)
-before-fair tag b m cells (writeParams other asked) stays fine e f =
-    let l =
-    same-or-spared tag other b _
-    (λ same. subst (λ (t : ℕ). Later tag b (does (writeParams t asked) m cells .panel)) same (later-write tag b m cells e asked))
-    (λ apart. left-alone tag b m _ e (spared tag (writeParams other asked) m cells apart .blind)) in
-    more-owed b (l .now) (l .owes) (f (l .now) (l .blind))
-before-fair tag b m cells (addLink link) stays fine e f =
-    f b (ap (Option·map {B = Blind} (λ (x : Seat). x .blind)) (ap (λ (o : Outcome Model). o .leaves .seats tag) (Bridges.add-does m cells link) ∙ add-seats tag m link) ∙ e)
-before-fair tag b m cells (removeLink link) stays fine e f =
-    f b (ap (Option·map {B = Blind} (λ (x : Seat). x .blind)) (ap (λ (o : Outcome Model). o .leaves .seats tag) (Bridges.remove-link-does m cells link) ∙ remove-link-seats tag m link) ∙ e)
-before-fair tag b m cells (spliceIn t n) stays fine e f = f b (spared tag (spliceIn t n) m cells tt .blind ∙ e)
-before-fair tag b m cells (spliceOut t n) stays fine e f = f b (spared tag (spliceOut t n) m cells tt .blind ∙ e)
-before-fair tag b m cells inventory stays fine e f = f b (spared tag inventory m cells tt .blind ∙ e)
+-- the milliseconds of a call that lets no time pass
+no-moments : (tag : ℕ) (t : Bool) (m : Model) → moments tag (cond t 0 0) m ≡ []
+unfolding moments
+no-moments tag true m = refl
+no-moments tag false m = refl
 
-run-fair : {tag : ℕ} (run : Run tag) (b : Blind) (m : Model) → Fine m → blindAt tag m ≡ some b → Fair (trace run m) b
+module _ (tag : ℕ) (b : Blind) (m : Model) (cells : Cells) (fine : Fine m) (here : blindAt tag m ≡ some b) {rest : List Moment} where
+  step-before : (dt : ℕ) → ((b′ : Blind) → blindAt tag (does (timeStep dt) m cells .leaves) ≡ some b′ → Fair rest b′)
+      → Fair (moments tag (lasting (record { call = timeStep dt; cells = cells }) m) m ++ rest) b
+  unfolding lasting moments
+  step-before dt f =
+      let (seat, there, is) = seat-of (m .seats tag) b here in
+      go (eqb (does (timeStep dt) m cells .answer) 0) (subst ofBlind.Sound is (fine .sound .blinds tag seat there))
+      (f _ (step-seen tag b m cells (fine .sound) here dt .blind))
+    where
+      go : (done : Bool) → ofBlind.Sound b → Fair rest (cond done (milliseconds dt b) b) → Fair (moments tag (cond done dt 0) m ++ rest) b
+      go true s g = subst (λ (l : List Moment). Fair (l ++ rest) b) (sym (moments-seen tag dt m b (fine .sound) here)) (step-fair dt b s g)
+      go false s g = g
+
+  -- a call that lets no time pass
+  timeless : (call : Call) → lasts call ≡ 0 → Later tag b (does call m cells .leaves)
+      → ((b′ : Blind) → blindAt tag (does call m cells .leaves) ≡ some b′ → Fair rest b′)
+      → Fair (moments tag (lasting (record { call = call; cells = cells }) m) m ++ rest) b
+  unfolding lasting
+  timeless call no-time l f =
+      subst (λ (ms : List Moment). Fair (ms ++ rest) b)
+      (sym (ap (λ (k : ℕ). moments tag (cond (eqb (does call m cells .answer) 0) k 0) m) no-time ∙ no-moments tag (eqb (does call m cells .answer) 0) m))
+      (more-owed b (l .now) (l .owes) (f (l .now) (l .blind)))
+
+  -- what comes after a call is fair, so the call's own milliseconds and what comes after are
+  before-fair : (call : Call) → Stays tag (record { call = call; cells = cells }) m
+      → ((b′ : Blind) → blindAt tag (does call m cells .leaves) ≡ some b′ → Fair rest b′)
+      → Fair (moments tag (lasting (record { call = call; cells = cells }) m) m ++ rest) b
+  before-fair (telegram address value) stays f = timeless (telegram address value) refl (later-telegram tag b m cells here fine address value) f
+  before-fair (timeStep dt) stays f = step-before dt f
+  before-fair strip stays f = timeless strip refl (left-alone tag b m _ here (spared tag strip m cells tt .blind)) f
+  before-fair (install other terminal asked) stays f =
+      timeless (install other terminal asked) refl
+      (same-or-spared tag other b _
+      (λ same. subst (λ (t : ℕ). Later tag b (does (install t terminal asked) m cells .leaves)) same (later-install tag b m cells here terminal asked))
+      (λ apart. left-alone tag b m _ here (spared tag (install other terminal asked) m cells apart .blind))) f
+  before-fair (removeBlind other) stays f =
+      timeless (removeBlind other) refl
+      (same-or-spared tag other b _
+      (λ same. later-refused tag b m cells here (removeBlind other) (stays (ap removeBlind (sym same))))
+      (λ apart. left-alone tag b m _ here (spared tag (removeBlind other) m cells apart .blind))) f
+  before-fair (writeParams other asked) stays f =
+      timeless (writeParams other asked) refl
+      (same-or-spared tag other b _
+      (λ same. subst (λ (t : ℕ). Later tag b (does (writeParams t asked) m cells .leaves)) same (later-write tag b m cells here asked))
+      (λ apart. left-alone tag b m _ here (spared tag (writeParams other asked) m cells apart .blind))) f
+  before-fair (addLink link) stays f = timeless (addLink link) refl (left-alone tag b m _ here (add-blind tag m cells link)) f
+  before-fair (removeLink link) stays f = timeless (removeLink link) refl (left-alone tag b m _ here (remove-link-blind tag m cells link)) f
+  before-fair (spliceIn t n) stays f = timeless (spliceIn t n) refl (left-alone tag b m _ here (spared tag (spliceIn t n) m cells tt .blind)) f
+  before-fair (spliceOut t n) stays f = timeless (spliceOut t n) refl (left-alone tag b m _ here (spared tag (spliceOut t n) m cells tt .blind)) f
+  before-fair inventory stays f = timeless inventory refl (left-alone tag b m _ here (spared tag inventory m cells tt .blind)) f
+
+run-fair : (tag : ℕ) (run : Run) (b : Blind) (m : Model) → Fine m → blindAt tag m ≡ some b → Each (Stays tag) run m → Fair (trace tag run m) b
 unfolding trace
-run-fair end b m fine e = none-fair b
-run-fair {tag} (next call stays cells run) b m fine e =
-    before-fair tag b m cells call stays fine e (λ b′ e′. run-fair run b′ (does call m cells .panel) (kept-fine call m cells fine) e′)
+run-fair tag [] b m fine here stay = none-fair b
+run-fair tag (turn ∷ run) b m fine here stay =
+    before-fair tag b m (turn .cells) fine here (turn .call) (stay .0)
+    (λ b′ e′. run-fair tag run b′ (gives turn m .leaves) (kept-fine (turn .call) m (turn .cells) fine) e′ (stay .1))
 
 -- Demand 2, the pause, for every sound panel, every blind in it and every run of calls in which it is not removed.
-pub paused : (tag : ℕ) (b : Blind) (m : Model) → Fine m → blindAt tag m ≡ some b → (run : Run tag) → Paused (trace run m)
-paused tag b m fine e run = run-fair run b m fine e .paused
+pub paused : (tag : ℕ) (b : Blind) (m : Model) → Fine m → blindAt tag m ≡ some b → (run : Run) → Each (Stays tag) run m → Paused (trace tag run m)
+paused tag b m fine here run stay = run-fair tag run b m fine here stay .paused

@@ -1,74 +1,72 @@
 -- Demand 3: two runs, one with edits that spare the blind and one without them. What the two panels have in common at each point
--- is the blind and its own links (Alike.antt); what is inserted keeps that, and so does each telegram and time step (Stepping.antt).
+-- is the blind and its own links (Alike.antt); what is inserted keeps that, and so does each telegram and time step (SameSteps.antt).
 -- Assumes nothing.
 use Prim.Native.Nat.{ℕ}
 use mathlib.Core.Path.{_≡_, refl, sym, ap, ap₂, _∙_}
-use mathlib.Core.Bool.{false}
-use mathlib.Core.List.{List, [], _∷_}
+use mathlib.Core.List.{List, [], _∷_, _++_}
 use mathlib.Core.Option.{some}
-use lib.ListN.{getD}
-use Rattle.answers.specs.Answers.{refusal, Outcome}
 use Rattle.blind.specs.declared.Blind.{Blind}
-use Rattle.reading.specs.Reports.{motorOf}
 use Rattle.panel.specs.Panel.{Model}
-use Rattle.panel.specs.Sound.{Sound}
-use Rattle.panel.specs.Calls.{Left}
-use Rattle.panel.proofs.Decides.{sound-tested}
-use Rattle.bus.proofs.Checks.{sound-passed}
-use Rattle.bus.proofs.Readings.{strip-at}
-use Rattle.bus.specs.Strip.{allOff, stripChecks, stripRead}
-use Rattle.panel.specs.Strip.{terminals}
-use Rattle.laws.proofs.Fills.{tabulate-length}
-use Rattle.panel.proofs.Checks.{lent-right}
-use Rattle.bus.proofs.Outcomes.{answer-is}
+use Rattle.panel.specs.Sound.{Fine}
+use Rattle.panel.specs.Calls.{Cells}
 use Rattle.seats.specs.Untouched.{blindAt}
-use Rattle.demands.specs.Calls.{telegram, timeStep, strip, does}
-use Rattle.demands.specs.Demand3.{Step, told, passed, inserted, run, without, reportsOf, commandAtSeat, motorSeen, SameRun}
-use Rattle.demands.proofs.Bridges
-use Rattle.demands.proofs.Soundness.{Fine}
+use Rattle.demands.specs.Calls.{Call, telegram, timeStep, strip, install, removeBlind, writeParams, addLink, removeLink, spliceIn, spliceOut, inventory, does}
+use Rattle.demands.specs.Runs.{Turn, gives, after, reportIn, reportOf, reportsOf}
+use Rattle.demands.specs.Demand3.{Spares, OfTheRun, told, passed, Step, own, inserted, whole, without, SameRun}
+use Rattle.demands.proofs.MotorSeen.{motor-seen}
 use Rattle.demands.proofs.Alike.{Alike, insert-alike}
-use Rattle.demands.proofs.Stepping.{seat-of, tell-stepped, pass-stepped}
+use Rattle.demands.proofs.SameSteps.{Stepped, tell-stepped, pass-stepped}
 
--- ---- the strip, at whatever terminal the blind has
+-- a telegram or a time step in both runs
+own-stepped : (tag : ℕ) (a b : Model) (blind : Blind) (call : Call) (cells : Cells) → OfTheRun call → Alike tag blind a b
+    → Stepped tag (does call a cells) (does call b cells)
+own-stepped tag a b blind (telegram address value) cells told k = tell-stepped tag address value cells a b blind k
+own-stepped tag a b blind (timeStep dt) cells passed k = pass-stepped tag dt cells a b blind k
 
--- a sound panel answers a reading of 128 cells
-strip-answer : (m : Model) → Sound m → stripRead m allOff .answer ≡ 0
-unfolding stripRead stripChecks refusal
-strip-answer m s =
-    answer-is _ _ _ _
-    ∙ lent-right terminals allOff m false [] (tabulate-length terminals (λ t. 0))
-    ∙ sound-passed m false [] (sound-tested m s)
+-- its report is the same in both
+own-reports : (tag : ℕ) (a b : Model) (call : Call) (cells : Cells) → OfTheRun call → reportOf tag (does call a cells) ≡ reportOf tag (does call b cells)
+    → reportIn tag call (does call b cells) ≡ reportIn tag call (does call a cells)
+own-reports tag a b (telegram address value) cells told e = ap (λ (n : ℕ). n ∷ []) (sym e)
+own-reports tag a b (timeStep dt) cells passed e = ap (λ (n : ℕ). n ∷ []) (sym e)
 
-pub motor-seen : (tag : ℕ) (m : Model) (blind : Blind) → Sound m → blindAt tag m ≡ some blind → motorSeen tag m ≡ motorOf blind
-unfolding motorSeen
-motor-seen tag m blind s e =
-    let (seat, there, is) = seat-of (m .seats tag) blind e in
-    ap (commandAtSeat m) there
-    ∙ ap (λ (o : Outcome Left). getD (o .leaves .cells) (seat .terminal) 0) (Bridges.strip-does m allOff)
-    ∙ strip-at m allOff (strip-answer m s) s tag seat there
-    ∙ ap motorOf is
-
--- ---- the two runs
+-- what is inserted reports nothing
+silent : (tag : ℕ) (call : Call) (m : Model) (cells : Cells) → Spares tag call → reportIn tag call (does call m cells) ≡ []
+silent tag (telegram address value) m cells s = absurd s
+silent tag (timeStep dt) m cells s = absurd s
+silent tag strip m cells s = refl
+silent tag (install other terminal asked) m cells s = refl
+silent tag (removeBlind other) m cells s = refl
+silent tag (writeParams other asked) m cells s = refl
+silent tag (addLink link) m cells s = refl
+silent tag (removeLink link) m cells s = refl
+silent tag (spliceIn t n) m cells s = refl
+silent tag (spliceOut t n) m cells s = refl
+silent tag inventory m cells s = refl
 
 record Together (tag : ℕ) (steps : List (Step tag)) (a b : Model) : Type 0 where
   blind : Blind
-  alike : Alike tag blind (run (without steps) a) (run steps b)
-  reports : reportsOf steps b ≡ reportsOf (without steps) a
+  alike : Alike tag blind (after (without steps) a) (after (whole steps) b)
+  reports : reportsOf tag (whole steps) b ≡ reportsOf tag (without steps) a
 
 together : {tag : ℕ} (steps : List (Step tag)) (blind : Blind) (a b : Model) → Alike tag blind a b → Together tag steps a b
-unfolding run without reportsOf
+unfolding after whole without reportsOf
 together [] blind a b k = record { blind = blind; alike = k; reports = refl }
-together {tag} (told address value cells ∷ steps) blind a b k =
-    let s = tell-stepped tag address value cells a b blind k in
-    let rest = together steps (s .blind) (does (telegram address value) a cells .panel) (does (telegram address value) b cells .panel) (s .alike) in
-    record { blind = rest .blind; alike = rest .alike; reports = ap₂ (λ (x : ℕ) (l : List ℕ). x ∷ l) (sym (s .reports)) (rest .reports) }
-together {tag} (passed dt cells ∷ steps) blind a b k =
-    let s = pass-stepped tag dt cells a b blind k in
-    let rest = together steps (s .blind) (does (timeStep dt) a cells .panel) (does (timeStep dt) b cells .panel) (s .alike) in
-    record { blind = rest .blind; alike = rest .alike; reports = ap₂ (λ (x : ℕ) (l : List ℕ). x ∷ l) (sym (s .reports)) (rest .reports) }
-together {tag} (inserted call spares ∷ steps) blind a b k =
-    let rest = together steps blind a (does call b [] .panel) (insert-alike a b call spares k) in
-    record { blind = rest .blind; alike = rest .alike; reports = rest .reports }
+together {tag} (own turn of-run ∷ steps) blind a b k =
+    let s = own-stepped tag a b blind (turn .call) (turn .cells) of-run k in
+    let rest = together steps (s .blind) (gives turn a .leaves) (gives turn b .leaves) (s .alike) in
+    record {
+      blind = rest .blind;
+      alike = rest .alike;
+      reports = ap₂ (λ (x y : List ℕ). x ++ y) (own-reports tag a b (turn .call) (turn .cells) of-run (s .reports)) (rest .reports);
+    }
+together {tag} (inserted turn spares ∷ steps) blind a b k =
+    let rest = together steps blind a (gives turn b .leaves) (insert-alike a b (turn .call) (turn .cells) spares k) in
+    record {
+      blind = rest .blind;
+      alike = rest .alike;
+      reports = ap (λ (x : List ℕ). x ++ reportsOf tag (whole steps) (gives turn b .leaves)) (silent tag (turn .call) b (turn .cells) spares)
+          ∙ rest .reports;
+    }
 
 -- Demand 3. Any run is one of its own beginnings, so what is said of the end of a run holds at every point of it.
 pub same-run : (tag : ℕ) (blind : Blind) (m : Model) → Fine m → blindAt tag m ≡ some blind → (steps : List (Step tag)) → SameRun tag steps m
@@ -78,6 +76,6 @@ same-run tag blind m fine e steps =
     record {
       blind = k .blind-b ∙ sym (k .blind-a);
       reports = t .reports;
-      motor = motor-seen tag (run steps m) (t .blind) (k .fine-b .sound) (k .blind-b)
-          ∙ sym (motor-seen tag (run (without steps) m) (t .blind) (k .fine-a .sound) (k .blind-a));
+      motor = motor-seen tag (after (whole steps) m) (t .blind) (k .fine-b .sound) (k .blind-b)
+          ∙ sym (motor-seen tag (after (without steps) m) (t .blind) (k .fine-a .sound) (k .blind-a));
     }

@@ -1,11 +1,13 @@
-pub mod Demand1
-pub mod Bridges
 pub mod Soundness
+pub mod Demand1
+pub mod Seats
+pub mod BlindSeen
+pub mod MotorSeen
 pub mod Alike
-pub mod Stepping
+pub mod SameSteps
 pub mod Demand3
 pub mod Afresh
-pub mod Paying
+pub mod Pauses
 pub mod Demand2
 pub mod Waiting
 pub mod Ruling

@@ -10,24 +10,23 @@ use mathlib.Core.Option.{some}
 use lib.Dec.{eqb}
 use borrow.Author.Tests.{ne-eqb}
 use Rattle.blind.specs.declared.Blind.{Blind}
-use Rattle.rules.specs.declared.Duty.{Duty}
+use Rattle.duties.specs.declared.Duty.{Duty}
 use Rattle.rules.specs.declared.Input.{Input}
-use Rattle.rules.specs.Rules.{dutyOf, isFree, heeded}
+use Rattle.duties.specs.Rulers.{dutyOf, isFree}
+use Rattle.rules.specs.Rules.{heeded}
 use Rattle.rules.specs.Telegrams.{commandOf, inputOf}
 use Rattle.conduct.specs.Ruling.{Rules}
-use Rattle.conduct.proofs.Duties.{duty-rules, only-duty, dropped}
-use Rattle.links.specs.declared.link.Link.{Link}
-use Rattle.panel.specs.Panel.{Seat, Model}
-use Rattle.bus.specs.Telegrams.{telegrammed}
+use Rattle.conduct.proofs.Ruling.{duty-rules, only-duty}
+use Rattle.conduct.proofs.Idle.{dropped}
+use Rattle.link.specs.declared.Link.{Link}
+use Rattle.panel.specs.Panel.{Model}
+use Rattle.panel.specs.Sound.{Fine}
+use Rattle.panel.specs.Calls.{Cells}
 use Rattle.bus.specs.Locality.{reached, heardBy}
-use Rattle.bus.proofs.Outcomes.{telegram-refused}
-use Rattle.bus.proofs.Locality.{telegram-local}
 use Rattle.seats.specs.Untouched.{blindAt}
 use Rattle.demands.specs.Calls.{telegram, does}
 use Rattle.demands.specs.Demand2.{Commands}
-use Rattle.demands.proofs.Bridges
-use Rattle.demands.proofs.Soundness.{Fine}
-use Rattle.demands.proofs.Stepping.{seat-of, leaves-blind}
+use Rattle.demands.proofs.BlindSeen.{telegram-seen}
 
 -- the duty of each blind of a panel is the one that rules, and no other is
 pub ruled : (tag : ℕ) (m : Model) (b : Blind) → blindAt tag m ≡ some b → Rules b (dutyOf b) × ((duty : Duty) → Rules b duty → duty ≡ dutyOf b)
@@ -47,16 +46,11 @@ unmoved value (link ∷ links) b e all =
     ∙ unmoved value links b e (all .1)
 
 -- under another duty than Free commands are dropped
-pub commands-dropped : (tag : ℕ) (b : Blind) (m : Model) (cells : List ℕ) (address value : ℕ) → Fine m → blindAt tag m ≡ some b
-    → isFree (dutyOf b) ≡ false → Commands (reached tag address m) → blindAt tag (does (telegram address value) m cells .panel) ≡ some b
+pub commands-dropped : (tag : ℕ) (b : Blind) (m : Model) (cells : Cells) (address value : ℕ) → Fine m → blindAt tag m ≡ some b
+    → isFree (dutyOf b) ≡ false → Commands (reached tag address m) → blindAt tag (does (telegram address value) m cells .leaves) ≡ some b
 commands-dropped tag b m cells address value fine here other all =
-    let (seat, there, is) = seat-of (m .seats tag) b here in
-    let t = telegrammed address value m cells in
-    leaves-blind tag m cells seat there (does (telegram address value) m cells) t (heardBy value (reached tag address m) (seat .blind))
-    (Bridges.telegram-does m cells address value) (telegram-local address value m cells tag seat (fine .sound) there)
-    (telegram-refused address value m cells)
-    ∙ ap (λ (x : Blind). some (cond (eqb (t .answer) 0) (heardBy value (reached tag address m) x) x)) is
-    ∙ ap (λ (x : Blind). some x) (go (eqb (t .answer) 0))
+    telegram-seen tag b m cells (fine .sound) here address value .blind
+    ∙ ap (λ (x : Blind). some x) (go (eqb (does (telegram address value) m cells .answer) 0))
   where
     go : (done : Bool) → cond done (heardBy value (reached tag address m) b) b ≡ b
     go true = unmoved value (reached tag address m) b other all

@@ -9,41 +9,47 @@ use lib.Dec.{eqb}
 use Rattle.laws.specs.Fills.{tabulate}
 use Rattle.laws.specs.Every.{every}
 use Rattle.tags.specs.Tags.{places}
-use Rattle.blind.specs.declared.Direction.{Direction}
+use Rattle.heights.specs.declared.Direction.{Direction}
 use Rattle.blind.specs.declared.Forced.{Forced}
 use Rattle.blind.specs.declared.Last.{Last}
 use Rattle.blind.specs.declared.Motion.{Motion}
 use Rattle.blind.specs.declared.Blind.{Blind}
-use Rattle.blind.specs.Parameters.{defaults}
+use Rattle.params.specs.Parameters.{defaults}
 use Rattle.blind.specs.Orders.{same}
+use Rattle.answers.specs.Rules.{Result}
+use Rattle.panel.specs.Calls.{Cells, row}
 use Rattle.panel.specs.Panel.{Seat, Model, bare}
-use Rattle.bus.specs.Reports.{noReport}
+use Rattle.outputs.specs.Reports.{noReport}
 use Rattle.seats.specs.Untouched.{blindAt}
-use Rattle.edits.specs.Parameters.{askedOf}
-use Rattle.demands.specs.Calls.{Call, telegram, timeStep, install, addLink, spliceIn, Result, does}
-use Rattle.demands.specs.Demand3.{motorSeen}
+use Rattle.params.specs.Numbers.{numbersOf}
+use Rattle.demands.specs.Calls.{Call, telegram, timeStep, install, addLink, spliceIn, does}
+use Rattle.demands.specs.Runs.{motorSeen}
 
 -- ---- scripts
+
+-- What a call gives.
+abbrev pub Seen : Type 0
+Seen = Result Model Cells
 
 -- A line: a call, and what is looked at in its result.
 pub record Line : Type 0 where
   pub call : Call
-  pub seen : Result → Bool
+  pub seen : Seen → Bool
 
 -- 64 cells to lend.
-abbrev pub blank : List ℕ
-blank = tabulate places (λ tag. 0)
+abbrev pub blank : Cells
+blank = row (tabulate places (λ tag. 0))
 
 -- A script is right if all that is looked at is so, each call on the panel that the one before left.
 unfoldable pub right : List Line → Model → Bool
 right [] m = true
-right (line ∷ lines) m = (line .seen) (does (line .call) m blank) && right lines (does (line .call) m blank .panel)
+right (line ∷ lines) m = (line .seen) (does (line .call) m blank) && right lines (does (line .call) m blank .leaves)
 
 -- A call that is done, with nothing more to look at; and one with a look.
 abbrev pub plain : Call → Line
 plain call = record { call = call; seen = λ r. eqb (r .answer) 0 }
 
-abbrev pub look : Call → (Result → Bool) → Line
+abbrev pub look : Call → (Seen → Bool) → Line
 look call seen = record { call = call; seen = λ r. eqb (r .answer) 0 && seen r }
 
 -- A call that is answered a number.
@@ -53,17 +59,17 @@ answers call number = record { call = call; seen = λ r. eqb (r .answer) number 
 -- ---- what is looked at, of blind 5
 
 -- off, up and down: its motor command on the strip, at whatever terminal it has
-abbrev pub off : Result → Bool
-off r = eqb (motorSeen 5 (r .panel)) 0
+abbrev pub off : Seen → Bool
+off r = eqb (motorSeen 5 (r .leaves)) 0
 
-abbrev pub up : Result → Bool
-up r = eqb (motorSeen 5 (r .panel)) 1
+abbrev pub up : Seen → Bool
+up r = eqb (motorSeen 5 (r .leaves)) 1
 
-abbrev pub down : Result → Bool
-down r = eqb (motorSeen 5 (r .panel)) 2
+abbrev pub down : Seen → Bool
+down r = eqb (motorSeen 5 (r .leaves)) 2
 
-abbrev pub reports : ℕ → Result → Bool
-reports n r = eqb (getD (r .cells) 5 noReport) n
+abbrev pub reports : ℕ → Seen → Bool
+reports n r = eqb (getD (r .cells .lent) 5 noReport) n
 
 abbrev pub onBlind : (Blind → Bool) → Option Blind → Bool
 onBlind test none = false
@@ -75,8 +81,8 @@ restingAt (Motion.Waits rest run) = false
 restingAt (Motion.Runs run) = false
 
 -- "at rest", "nothing waits"
-abbrev pub resting : Result → Bool
-resting r = onBlind (λ b. restingAt (b .motion)) (blindAt 5 (r .panel))
+abbrev pub resting : Seen → Bool
+resting r = onBlind (λ b. restingAt (b .motion)) (blindAt 5 (r .leaves))
 
 abbrev pub upWaitsAt : Motion → Bool
 upWaitsAt (Motion.Off rest) = false
@@ -84,8 +90,8 @@ upWaitsAt (Motion.Waits rest run) = same Direction.Up (run .direction)
 upWaitsAt (Motion.Runs run) = false
 
 -- "an up run waits"
-abbrev pub upWaits : Result → Bool
-upWaits r = onBlind (λ b. upWaitsAt (b .motion)) (blindAt 5 (r .panel))
+abbrev pub upWaits : Seen → Bool
+upWaits r = onBlind (λ b. upWaitsAt (b .motion)) (blindAt 5 (r .leaves))
 
 abbrev pub lengthAt : Motion → ℕ
 lengthAt (Motion.Off rest) = 0
@@ -93,8 +99,8 @@ lengthAt (Motion.Waits rest run) = run .length
 lengthAt (Motion.Runs run) = run .length
 
 -- "full length"
-abbrev pub fullLength : Result → Bool
-fullLength r = onBlind (λ b. eqb (lengthAt (b .motion)) 60000) (blindAt 5 (r .panel))
+abbrev pub fullLength : Seen → Bool
+fullLength r = onBlind (λ b. eqb (lengthAt (b .motion)) 60000) (blindAt 5 (r .leaves))
 
 abbrev pub eitherLast : Last → Bool
 eitherLast Last.Either = true
@@ -116,19 +122,19 @@ abbrev pub frostAlone : Blind → Bool
 frostAlone b =
     b .flags .frost
     && (not (b .flags .wind) && (not (b .flags .rain) && notForced (b .flags .forced)))
-    && (eqb (b .position) 0 && (not (b .valid) && (eitherLast (b .last) && restIs 500 (b .motion))))
+    && (eqb (b .place .position) 0 && (not (b .place .valid) && (eitherLast (b .last) && restIs 500 (b .motion))))
 
-abbrev pub frost : Result → Bool
-frost r = onBlind frostAlone (blindAt 5 (r .panel))
+abbrev pub frost : Seen → Bool
+frost r = onBlind frostAlone (blindAt 5 (r .leaves))
 
 abbrev pub terminalIn : Option Seat → ℕ
 terminalIn none = 128
 terminalIn (some seat) = seat .terminal
 
-abbrev pub stands : ℕ → ℕ → Result → Bool
-stands tag terminal r = eqb (terminalIn (r .panel .seats tag)) terminal
+abbrev pub stands : ℕ → ℕ → Seen → Bool
+stands tag terminal r = eqb (terminalIn (r .leaves .seats tag)) terminal
 
-abbrev pub both : (Result → Bool) → (Result → Bool) → Result → Bool
+abbrev pub both : (Seen → Bool) → (Seen → Bool) → Seen → Bool
 both one other r = one r && other r
 
 -- ---- "Blind 5 at terminal 9, defaults, fresh, each kind on its own address": the address of a kind is one above it
@@ -138,7 +144,7 @@ link kind = plain (addLink (record { address = kind + 1; tag = 5; kind = kind })
 
 abbrev pub fresh : List Line
 fresh =
-    plain (install 5 9 (askedOf defaults))
+    plain (install 5 9 (numbersOf defaults))
     ∷ link 0 ∷ link 1 ∷ link 2 ∷ link 3 ∷ link 4 ∷ link 5 ∷ link 6 ∷ link 7 ∷ []
 
 abbrev pub WA : ℕ → Call
@@ -207,7 +213,7 @@ w10 =
     ++ (plain (FO 3) ∷ look (timeStep 500) down ∷ plain (timeStep 1000) ∷ look (WA 1) (both off upWaits) ∷ look (WA 0) (both down fullLength) ∷ [])
 
 abbrev pub notBusy : List Line
-notBusy = fresh ++ (plain (install 6 8 (askedOf defaults)) ∷ plain (timeStep 500) ∷ [])
+notBusy = fresh ++ (plain (install 6 8 (numbersOf defaults)) ∷ plain (timeStep 500) ∷ [])
 
 -- "Not busy, splice in 2 at 9: terminal 11; a blind at 8 stays."
 abbrev pub w11 : List Line
@@ -228,13 +234,13 @@ allRight = every (λ script. right script bare) cases
 -- ---- the caretaker's story: the west's and the south's blinds on one address for MUD, each with its own wind alarm; one module of two
 -- terminals goes in before the south's; then the wind alarm for the west, and a MUD down for both
 
-abbrev pub motor : ℕ → ℕ → Result → Bool
-motor tag n r = eqb (motorSeen tag (r .panel)) n
+abbrev pub motor : ℕ → ℕ → Seen → Bool
+motor tag n r = eqb (motorSeen tag (r .leaves)) n
 
 abbrev pub story : List Line
 story =
-    plain (install 1 4 (askedOf defaults))
-    ∷ plain (install 2 8 (askedOf defaults))
+    plain (install 1 4 (numbersOf defaults))
+    ∷ plain (install 2 8 (numbersOf defaults))
     ∷ plain (addLink (record { address = 100; tag = 1; kind = 0 }))
     ∷ plain (addLink (record { address = 200; tag = 2; kind = 0 }))
     ∷ plain (addLink (record { address = 300; tag = 1; kind = 4 }))

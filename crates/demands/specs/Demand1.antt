@@ -1,27 +1,37 @@
--- Demand 1: "Any telegram, time step or edit, on any panel contents, gets an answer from document 01's table. A refused call leaves the
--- panel and all lent cells untouched."
+-- Demand 1: "Any telegram, time step or edit, on any panel contents, gets an answer from document 01's table. A refused call leaves
+-- the panel and all lent cells untouched."
 -- Assumes nothing.
 use Prim.Native.Nat.{ℕ, _≤_}
 use mathlib.Core.Path.{_≡_}
-use mathlib.Core.Bool.{true, false}
-use mathlib.Core.List.{List, [], _∷_}
-use Rattle.answers.specs.Answers.{Check}
+use mathlib.Core.List.{List}
+use Rattle.answers.specs.Cases.{Case, Exactly}
+use Rattle.answers.specs.Rules.{refusedBy, doneBy}
 use Rattle.panel.specs.Panel.{Model}
-use Rattle.demands.specs.Calls.{Call, Result, checksOf, panelAfter, cellsAfter, countOf, lowestOf}
+use Rattle.panel.specs.Calls.{Cells}
+use Rattle.bus.specs.Cases.{telegramCases, stepCases}
+use Rattle.readings.specs.Cases.{stripCases, inventoryCases}
+use Rattle.edits.specs.Cases.{installCases, removeCases, writeCases}
+use Rattle.wiring.specs.Cases.{addCases, removeLinkCases}
+use Rattle.splices.specs.Cases.{inCases, outCases}
+use Rattle.demands.specs.Calls.{Call, telegram, timeStep, strip, install, removeBlind, writeParams, addLink, removeLink, spliceIn, spliceOut, inventory, ruleOf, does}
 
--- "Each is given exactly in its case": the number belongs to a check whose case is there, and no check before it has its case there.
-pub data First : List Check → ℕ → Type 0 where
-  here : {check : Check} {rest : List Check} → check .0 ≡ true → First (check ∷ rest) (check .1)
-  later : {check : Check} {rest : List Check} {number : ℕ} → check .0 ≡ false → First rest number → First (check ∷ rest) number
-
--- No check has its case there.
-pub data Passed : List Check → Type 0 where
-  none : Passed []
-  more : {check : Check} {rest : List Check} → check .0 ≡ false → Passed rest → Passed (check ∷ rest)
+-- The numbers that each call can answer, with their cases, in the order in which they are checked.
+abbrev pub casesOf : Call → Model → Cells → List (Case ℕ)
+casesOf (telegram address value) = telegramCases address value
+casesOf (timeStep dt) = stepCases dt
+casesOf strip = stripCases
+casesOf (install tag terminal asked) = installCases tag terminal asked
+casesOf (removeBlind tag) = removeCases tag
+casesOf (writeParams tag asked) = writeCases tag asked
+casesOf (addLink link) = addCases link
+casesOf (removeLink link) = removeLinkCases link
+casesOf (spliceIn t n) = inCases t n
+casesOf (spliceOut t n) = outCases t n
+casesOf inventory = inventoryCases
 
 -- What a caller may count on, whatever the panel holds.
-pub data Answers (call : Call) (m : Model) (cells : List ℕ) : Result → Type 0 where
-  done : Passed (checksOf call m cells)
-      → Answers call m cells (record { answer = 0; count = countOf call m; lowest = lowestOf call m; panel = panelAfter call m; cells = cellsAfter call m cells })
-  refused : (number : ℕ) → 1 ≤ number → number ≤ 12 → First (checksOf call m cells) number
-      → Answers call m cells (record { answer = number; count = 0; lowest = 0; panel = m; cells = cells })
+pub record Answers (call : Call) (m : Model) (cells : Cells) : Type 1 where
+  pub in-the-table : does call m cells .answer ≤ 12
+  pub in-its-case : Exactly 0 (casesOf call m cells) (does call m cells .answer)
+  pub done : does call m cells .answer ≡ 0 → does call m cells ≡ doneBy (ruleOf call) m cells
+  pub refused : (does call m cells .answer ≡ 0 → ⊥) → does call m cells ≡ refusedBy (does call m cells .answer) m cells

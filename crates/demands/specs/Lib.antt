@@ -1,4 +1,5 @@
 pub mod Calls
+pub mod Runs
 pub mod Demand1
 pub mod Demand3
 pub mod Demand2

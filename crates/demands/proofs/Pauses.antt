@@ -8,15 +8,15 @@ use mathlib.Core.Bool.{cond}
 use mathlib.Core.List.{List, [], _∷_, _++_, map}
 use lib.ListN.{length, getD, drop, length-append}
 use lib.Dec.{eqb}
-use Rattle.blind.specs.declared.Direction.{Direction}
+use Rattle.heights.specs.declared.Direction.{Direction}
 use Rattle.blind.specs.declared.Blind.{Blind}
 use Rattle.blind.specs.Millisecond.{millisecond, milliseconds}
-use Rattle.reading.specs.Reports.{command, motorOf}
-use Rattle.reading.specs.Sound as ofBlind
-use Rattle.conduct.specs.Courses.{opposite, offs}
+use Rattle.outputs.specs.Reports.{command, motorOf}
+use Rattle.sound_blind.specs.Sound as ofBlind
+use Rattle.conduct.specs.Pauses.{opposite, offs, off}
 use Rattle.blind.proofs.Cutting.{one-first}
-use Rattle.conduct.proofs.Motions.{millisecond-sound}
-use Rattle.conduct.proofs.Owed.{owed, off, millisecond-pays, running-against, running-along, off-while-running}
+use Rattle.conduct.proofs.SoundMotions.{millisecond-sound}
+use Rattle.conduct.proofs.Owed.{owed, millisecond-pays, running-against, running-along, off-while-running}
 use Rattle.demands.specs.Demand2.{Moment, motorsOf, Paused}
 
 -- ---- lists
