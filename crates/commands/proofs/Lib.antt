@@ -1,5 +1,5 @@
-pub mod Naming
-pub mod Endings
-pub mod Walking
-pub mod Collecting
-pub mod Saying
+pub mod Counting
+pub mod LineEnd
+pub mod WordByWord
+pub mod Collected
+pub mod Meanings

@@ -1,5 +1,5 @@
--- Arguments as they are collected word by word: their number up to one more than any command takes, whether all are numbers,
--- and the first eight values. proofs/Collecting shows that this tells all that `saidBy` asks.
+-- Arguments as they are collected word by word: their number up to one more than are kept, whether all are numbers, and
+-- the values that are kept. proofs/Collected shows that this tells all that `meaningOf` asks.
 -- Assumes nothing.
 use Prim.Native.Nat.{ℕ, _+_, min}
 use mathlib.Core.Bool.{true, false}
@@ -8,13 +8,14 @@ use lib.ListN.{getD, set, replicate}
 use Rattle.decimals.specs.declared.Number.{Number}
 use Rattle.decimals.specs.Decimals.{numberOf}
 use Rattle.commands.specs.declared.arguments.Arguments.{Arguments}
+use Rattle.commands.specs.Names.{most}
 
 unfoldable pub nothing : Arguments
-nothing = record { count = 0; numeric = true; values = replicate 8 0 }
+nothing = record { count = 0; numeric = true; values = replicate most 0 }
 
--- One more, up to nine.
+-- One more, up to one more than are kept.
 abbrev pub oneMore : ℕ → ℕ
-oneMore count = min (count + 1) 9
+oneMore count = min (count + 1) (most + 1)
 
 unfoldable pub with : Arguments → Number → Arguments
 with a Number.Nothing = record { count = oneMore (a .count); numeric = false; values = a .values }

@@ -4,79 +4,52 @@ use Prim.Native.Nat.{ℕ, _+_}
 use Prim.Native.String.{String}
 use mathlib.Core.Bool.{Bool, true, false, cond, _&&_, _||_}
 use mathlib.Core.List.{List, [], _∷_}
-use lib.Dec.{eqb}
+use lib.Dec.{eqb, leb}
 use Rattle.texts.specs.Text.{text, same}
 use Rattle.commands.specs.declared.names.Name.{Name}
+use Rattle.commands.specs.declared.names.Entry.{Entry}
 
--- The commands that are edits of the panel.
-abbrev pub editNames : List (String × Name)
-editNames =
-    ("install", Name.Install) ∷ ("remove", Name.Remove) ∷ ("params", Name.Params) ∷ ("link", Name.Link) ∷ ("unlink", Name.Unlink)
-    ∷ ("in", Name.In) ∷ ("out", Name.Out) ∷ []
+-- A command, how many arguments it takes, and whether a set of parameters may follow: "[MUDT SST RPT RWA RRA RFA]".
+abbrev pub taking : Name → ℕ → Bool → Entry
+taking name plain set = record { known = true; name = name; plain = plain; set = set }
 
--- All others.
-abbrev pub otherNames : List (String × Name)
-otherNames =
-    ("tel", Name.Tel) ∷ ("time", Name.Time) ∷ ("strip", Name.Strip) ∷ ("inv", Name.Inv) ∷ ("show", Name.Show) ∷ ("new", Name.New) ∷ []
+abbrev pub unknown : Entry
+unknown = record { known = false; name = Name.Unknown; plain = 0; set = false }
 
--- What a word is called in a table of names.
-unfoldable pub named : List (String × Name) → Name → List ℕ → Name
-named [] otherwise word = otherwise
-named (row ∷ rows) otherwise word = cond (same word (text (row .0))) (row .1) (named rows otherwise word)
+-- The commands by their words.
+abbrev pub table : List (String × Entry)
+table =
+    ("install", taking Name.Install 2 true)
+    ∷ ("remove", taking Name.Remove 1 false)
+    ∷ ("params", taking Name.Params 1 true)
+    ∷ ("link", taking Name.Link 3 false)
+    ∷ ("unlink", taking Name.Unlink 3 false)
+    ∷ ("in", taking Name.In 2 false)
+    ∷ ("out", taking Name.Out 2 false)
+    ∷ ("tel", taking Name.Tel 2 false)
+    ∷ ("time", taking Name.Time 1 false)
+    ∷ ("strip", taking Name.Strip 0 false)
+    ∷ ("inv", taking Name.Inv 0 false)
+    ∷ ("show", taking Name.Show 0 false)
+    ∷ ("new", taking Name.New 0 false)
+    ∷ []
 
-unfoldable pub nameOf : List ℕ → Name
-nameOf word = named editNames (named otherNames Name.Unknown word) word
+-- The entry of some letters if the word is these, and otherwise another.
+unfoldable pub entryFor : List ℕ → List ℕ → Entry → Entry → Entry
+entryFor word letters own otherwise = cond (same word letters) own otherwise
 
-abbrev pub isKnown : Name → Bool
-isKnown Name.Unknown = false
-isKnown Name.New = true
-isKnown Name.Show = true
-isKnown Name.Strip = true
-isKnown Name.Inv = true
-isKnown Name.Install = true
-isKnown Name.Remove = true
-isKnown Name.Params = true
-isKnown Name.Link = true
-isKnown Name.Unlink = true
-isKnown Name.In = true
-isKnown Name.Out = true
-isKnown Name.Tel = true
-isKnown Name.Time = true
+-- What a word is in a table of commands.
+unfoldable pub entryIn : List (String × Entry) → List ℕ → Entry
+entryIn [] word = unknown
+entryIn (row ∷ rows) word = entryFor word (text (row .0)) (row .1) (entryIn rows word)
 
--- How many arguments a command takes, a set of parameters not counted.
-abbrev pub plainCount : Name → ℕ
-plainCount Name.Unknown = 0
-plainCount Name.New = 0
-plainCount Name.Show = 0
-plainCount Name.Strip = 0
-plainCount Name.Inv = 0
-plainCount Name.Install = 2
-plainCount Name.Remove = 1
-plainCount Name.Params = 1
-plainCount Name.Link = 3
-plainCount Name.Unlink = 3
-plainCount Name.In = 2
-plainCount Name.Out = 2
-plainCount Name.Tel = 2
-plainCount Name.Time = 1
+unfoldable pub entryOf : List ℕ → Entry
+entryOf = entryIn table
 
--- "[MUDT SST RPT RWA RRA RFA]": whether a set of six parameters may follow.
-abbrev pub takesSet : Name → Bool
-takesSet Name.Unknown = false
-takesSet Name.New = false
-takesSet Name.Show = false
-takesSet Name.Strip = false
-takesSet Name.Inv = false
-takesSet Name.Install = true
-takesSet Name.Remove = false
-takesSet Name.Params = true
-takesSet Name.Link = false
-takesSet Name.Unlink = false
-takesSet Name.In = false
-takesSet Name.Out = false
-takesSet Name.Tel = false
-takesSet Name.Time = false
+-- The most arguments that are kept.
+abbrev pub most : ℕ
+most = 12
 
 -- Whether a command takes this number of arguments.
-unfoldable pub takes : Name → ℕ → Bool
-takes name count = eqb count (plainCount name) || (takesSet name && eqb count (plainCount name + 6))
+unfoldable pub takes : Entry → ℕ → Bool
+takes entry count = leb count most && (eqb count (entry .plain) || (entry .set && eqb count (entry .plain + 6)))

@@ -1,7 +1,8 @@
-// The words behind the command's name, read as numbers. No command takes more than eight, so a ninth is counted and not kept.
+// The words after the command's name, read as numbers. What is more than any command takes is counted once and not kept.
 use decimals::Number;
 use decimals::read_number;
-use edits::asked::Asked;
+use params::Asked;
+use params::SET;
 use texts::words::word_end;
 use texts::words::word_start;
 ghost use Prim.Native.Nat.{_≤_};
@@ -9,17 +10,17 @@ ghost use mathlib.Core.Path.{_≡_};
 ghost use lib.ListN.{drop};
 ghost use Rattle.texts.specs.Words.{words};
 ghost use Rattle.commands.specs.Arguments.{nothing, oneMore, with, heard, valueAt};
-ghost use Rattle.commands.specs.Lines.{setBehind};
+ghost use Rattle.commands.specs.Lines.{setAfter};
 
-// The most arguments that a command takes.
-const MOST: usize = 8;
+// The most arguments that are kept.
+pub(crate) const MOST: usize = 12;
 
 pub(crate) struct Arguments {
-    // How many there are, or one more than a command takes.
+    // How many there are, or one more than are kept.
     pub(crate) count: usize,
     // Whether each is a number.
     pub(crate) numeric: bool,
-    pub(crate) values: [u64; 8],
+    pub(crate) values: [u64; MOST],
 }
 
 impl Arguments {
@@ -29,7 +30,7 @@ impl Arguments {
         Arguments {
             count: 0,
             numeric: true,
-            values: [0; 8],
+            values: [0; MOST],
         }
     }
 
@@ -74,22 +75,19 @@ impl Arguments {
         heard
     }
 
-    // The set of parameters behind the first arguments; where there is none, the default set.
-    pub(crate) fn set_behind(self, first: usize) -> Asked
+    // The set of parameters after the first arguments; where there is none, the default set.
+    pub(crate) fn set_after(self, first: usize) -> Asked
         requires { ⌜ first ≤ 2 ⌝ }
-        ensures { λ r. ⌜ r ≡ setBehind first (self .count) (valueAt self) ⌝ }
+        ensures { λ r. ⌜ r ≡ setAfter first (self .count) (valueAt self) ⌝ }
     {
         if self.count <= first {
             return Asked::default_set();
         }
-        Asked {
-            mudt: self.values[first],
-            sst: self.values[first + 1],
-            rpt: self.values[first + 2],
-            rwa: self.values[first + 3],
-            rra: self.values[first + 4],
-            rfa: self.values[first + 5],
+        let mut row = [0; SET];
+        for k in 0..SET {
+            row[k] = self.values[first + k];
         }
+        Asked::of(row)
     }
 }
 

@@ -4,14 +4,10 @@ mod arguments;
 pub mod lines;
 mod names;
 
-use edits::asked::Asked;
+use params::Asked;
 
-// What a line asks for: a call of the panel with its numbers as they stand there, of any size.
-pub enum Command {
-    New,
-    Show,
-    Strip,
-    Inv,
+// An edit of the panel, with its numbers as they stand in the line, of any size.
+pub enum Edit {
     Install(u64, u64, Asked),
     Remove(u64),
     Params(u64, Asked),
@@ -19,6 +15,15 @@ pub enum Command {
     Unlink(u64, u64, u64),
     In(u64, u64),
     Out(u64, u64),
+}
+
+// What a line asks for.
+pub enum Command {
+    New,
+    Show,
+    Strip,
+    Inv,
+    Edit(Edit),
     Tel(u64, u64),
     Time(u64),
 }
@@ -31,8 +36,8 @@ pub enum Fault {
     NotANumber,
 }
 
-// What a line says.
-pub enum Said {
+// What a line means.
+pub enum Meaning {
     Silent,
     Call(Command),
     Wrong(Fault),

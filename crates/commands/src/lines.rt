@@ -1,17 +1,17 @@
-// A line as a command: what it says, or what is wrong with it, the first mistake first.
+// A line as a command: what it means, or what is wrong with it, the first mistake first.
 use crate::Command;
+use crate::Edit;
 use crate::Fault;
-use crate::Said;
+use crate::Meaning;
 use crate::arguments::Arguments;
+use crate::names::Entry;
 use crate::names::Name;
-use crate::names::is_known;
-use crate::names::takes;
 use texts::words::word_end;
 use texts::words::word_start;
 ghost use Prim.Native.Nat.{_≤_};
 ghost use mathlib.Core.Path.{_≡_};
 ghost use lib.ListN.{take, length};
-ghost use Rattle.commands.specs.Lines.{uncarried, saidBy, judged, called, lineSays};
+ghost use Rattle.commands.specs.Lines.{withoutReturn, meaningOf, judged, called, lineMeans};
 ghost use Rattle.commands.specs.Arguments.{valueAt};
 ghost use Rattle.texts.specs.Words.{words};
 
@@ -22,12 +22,12 @@ const RETURN: u8 = 13;
 
 const COMMENT: u8 = b'#';
 
-// What a line says, without its line feed.
-pub fn read_line(line: &[u8]) -> Said
-    ensures { λ r. ⌜ r ≡ lineSays (now (line .entry)) ⌝ }
+// What a line means, without its line feed.
+pub fn read_line(line: &[u8]) -> Meaning
+    ensures { λ r. ⌜ r ≡ lineMeans (now (line .entry)) ⌝ }
 {
     if LONGEST < line.len() {
-        return Said::Wrong(Fault::TooLong);
+        return Meaning::Wrong(Fault::TooLong);
     }
     let end = end_of(line);
     read_words(&line[..end])
@@ -35,7 +35,7 @@ pub fn read_line(line: &[u8]) -> Said
 
 // Where a line ends: a carriage return at its end does not belong to it.
 fn end_of(line: &[u8]) -> usize
-    ensures { λ r. ⌜ take r (now (line .entry)) ≡ uncarried (now (line .entry)) ⌝ }
+    ensures { λ r. ⌜ take r (now (line .entry)) ≡ withoutReturn (now (line .entry)) ⌝ }
     ensures { λ r. ⌜ r ≤ length (now (line .entry)) ⌝ }
 {
     let length = line.len();
@@ -48,58 +48,59 @@ fn end_of(line: &[u8]) -> usize
     length
 }
 
-fn read_words(line: &[u8]) -> Said
-    ensures { λ r. ⌜ r ≡ saidBy (words (now (line .entry))) ⌝ }
+fn read_words(line: &[u8]) -> Meaning
+    ensures { λ r. ⌜ r ≡ meaningOf (words (now (line .entry))) ⌝ }
 {
     let start = word_start(line, 0);
     if line.len() <= start {
-        return Said::Silent;
+        return Meaning::Silent;
     }
     if line[start] == COMMENT {
-        return Said::Silent;
+        return Meaning::Silent;
     }
     let end = word_end(line, start);
-    let name = Name::of(&line[start..end]);
+    let entry = Entry::of(&line[start..end]);
     let arguments = Arguments::of(line, end);
-    judge(name, arguments)
+    judge(entry, arguments)
 }
 
-fn judge(name: Name, arguments: Arguments) -> Said
-    ensures { λ r. ⌜ r ≡ judged name (arguments .count) (arguments .numeric) (valueAt arguments) ⌝ }
+fn judge(entry: Entry, arguments: Arguments) -> Meaning
+    ensures { λ r. ⌜ r ≡ judged entry (arguments .count) (arguments .numeric) (valueAt arguments) ⌝ }
 {
-    if !is_known(name) {
-        return Said::Wrong(Fault::UnknownCommand);
+    if !entry.known {
+        return Meaning::Wrong(Fault::UnknownCommand);
     }
-    if !takes(name, arguments.count) {
-        return Said::Wrong(Fault::WrongCount);
+    if !entry.takes(arguments.count) {
+        return Meaning::Wrong(Fault::WrongCount);
     }
     if !arguments.numeric {
-        return Said::Wrong(Fault::NotANumber);
+        return Meaning::Wrong(Fault::NotANumber);
     }
+    let name = entry.name;
     call(name, arguments)
 }
 
 // The call that a name and its arguments make.
-fn call(name: Name, given: Arguments) -> Said
+fn call(name: Name, given: Arguments) -> Meaning
     ensures { λ r. ⌜ r ≡ called name (given .count) (valueAt given) ⌝ }
 {
     let a = given.values[0];
     let b = given.values[1];
     let c = given.values[2];
     match name {
-        Name::Unknown => Said::Wrong(Fault::UnknownCommand),
-        Name::New => Said::Call(Command::New),
-        Name::Show => Said::Call(Command::Show),
-        Name::Strip => Said::Call(Command::Strip),
-        Name::Inv => Said::Call(Command::Inv),
-        Name::Install => Said::Call(Command::Install(a, b, given.set_behind(2))),
-        Name::Remove => Said::Call(Command::Remove(a)),
-        Name::Params => Said::Call(Command::Params(a, given.set_behind(1))),
-        Name::Link => Said::Call(Command::Link(a, b, c)),
-        Name::Unlink => Said::Call(Command::Unlink(a, b, c)),
-        Name::In => Said::Call(Command::In(a, b)),
-        Name::Out => Said::Call(Command::Out(a, b)),
-        Name::Tel => Said::Call(Command::Tel(a, b)),
-        Name::Time => Said::Call(Command::Time(a)),
+        Name::Unknown => Meaning::Wrong(Fault::UnknownCommand),
+        Name::New => Meaning::Call(Command::New),
+        Name::Show => Meaning::Call(Command::Show),
+        Name::Strip => Meaning::Call(Command::Strip),
+        Name::Inv => Meaning::Call(Command::Inv),
+        Name::Install => Meaning::Call(Command::Edit(Edit::Install(a, b, given.set_after(2)))),
+        Name::Remove => Meaning::Call(Command::Edit(Edit::Remove(a))),
+        Name::Params => Meaning::Call(Command::Edit(Edit::Params(a, given.set_after(1)))),
+        Name::Link => Meaning::Call(Command::Edit(Edit::Link(a, b, c))),
+        Name::Unlink => Meaning::Call(Command::Edit(Edit::Unlink(a, b, c))),
+        Name::In => Meaning::Call(Command::Edit(Edit::In(a, b))),
+        Name::Out => Meaning::Call(Command::Edit(Edit::Out(a, b))),
+        Name::Tel => Meaning::Call(Command::Tel(a, b)),
+        Name::Time => Meaning::Call(Command::Time(a)),
     }
 }

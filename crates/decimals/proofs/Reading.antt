@@ -12,11 +12,11 @@ use lib.Dec.{leb}
 use borrow.Author.Tests.{lt-leb, le-leb, leb-false, leb-true}
 use Rattle.laws.specs.Every.{every}
 use Rattle.decimals.specs.declared.Number.{Number}
-use Rattle.decimals.specs.Decimals.{sign, isDigit, valueBehind, largest, isNumber, numberBehind, numberOf}
+use Rattle.decimals.specs.Decimals.{sign, isDigit, valueAfter, largest, isNumber, numberAfter, numberOf}
 
 -- a value never falls
-pub grows : (value : ℕ) (bytes : List ℕ) → value ≤ valueBehind value bytes
-unfolding valueBehind
+pub grows : (value : ℕ) (bytes : List ℕ) → value ≤ valueAfter value bytes
+unfolding valueAfter
 grows value [] = omega arith
 grows value (byte ∷ bytes) = let more = grows (value * 10 + (byte - 48)) bytes in omega arith
 
@@ -24,34 +24,34 @@ grows value (byte ∷ bytes) = let more = grows (value * 10 + (byte - 48)) bytes
 
 module _ (value byte : ℕ) where
   -- no digit, past 64 bits, or read
-  pub below-digits : byte < sign 0 → Number.Nothing ≡ numberBehind value (byte ∷ [])
-  unfolding numberBehind every valueBehind
+  pub below-digits : byte < sign 0 → Number.Nothing ≡ numberAfter value (byte ∷ [])
+  unfolding numberAfter every valueAfter
   below-digits h = simp (lt-leb (sign 0) byte h)
 
-  pub above-digits : sign 9 < byte → Number.Nothing ≡ numberBehind value (byte ∷ [])
-  unfolding numberBehind every valueBehind
+  pub above-digits : sign 9 < byte → Number.Nothing ≡ numberAfter value (byte ∷ [])
+  unfolding numberAfter every valueAfter
   above-digits h = simp (le-leb (sign 0) byte (omega arith), lt-leb byte (sign 9) h)
 
   module _ (low : sign 0 ≤ byte) (high : byte ≤ sign 9) where
-    pub too-large : largest < value * 10 + (byte - 48) → Number.Nothing ≡ numberBehind value (byte ∷ [])
-    unfolding numberBehind every valueBehind
+    pub too-large : largest < value * 10 + (byte - 48) → Number.Nothing ≡ numberAfter value (byte ∷ [])
+    unfolding numberAfter every valueAfter
     too-large h = simp (le-leb (sign 0) byte low, le-leb byte (sign 9) high, lt-leb _ _ h)
 
-    pub still-fits : value * 10 + (byte - 48) ≤ largest → Number.Of (value * 10 + (byte - 48)) ≡ numberBehind value (byte ∷ [])
-    unfolding numberBehind every valueBehind
+    pub still-fits : value * 10 + (byte - 48) ≤ largest → Number.Of (value * 10 + (byte - 48)) ≡ numberAfter value (byte ∷ [])
+    unfolding numberAfter every valueAfter
     still-fits h = simp (le-leb (sign 0) byte low, le-leb byte (sign 9) high, le-leb _ _ h)
 
--- ---- what comes behind it
+-- ---- what comes after it
 
 module _ (value byte : ℕ) (bytes : List ℕ) where
   -- what is refused stays refused
-  stays-refused : numberBehind value (byte ∷ []) ≡ Number.Nothing → numberBehind value (byte ∷ bytes) ≡ Number.Nothing
-  unfolding numberBehind every valueBehind
+  stays-refused : numberAfter value (byte ∷ []) ≡ Number.Nothing → numberAfter value (byte ∷ bytes) ≡ Number.Nothing
+  unfolding numberAfter every valueAfter
   stays-refused =
       let next : ℕ = value * 10 + (byte - 48) in
-      let more : next ≤ valueBehind next bytes = grows next bytes in
-      go (isDigit byte) (every isDigit bytes) (leb next largest) (leb (valueBehind next bytes) largest) next (valueBehind next bytes)
-      (λ e. let past : largest < next = leb-false next largest e in lt-leb (valueBehind next bytes) largest (omega arith))
+      let more : next ≤ valueAfter next bytes = grows next bytes in
+      go (isDigit byte) (every isDigit bytes) (leb next largest) (leb (valueAfter next bytes) largest) next (valueAfter next bytes)
+      (λ e. let past : largest < next = leb-false next largest e in lt-leb (valueAfter next bytes) largest (omega arith))
     where
       go : (digit rest fits fit : Bool) (v w : ℕ) → (fits ≡ false → fit ≡ false)
           → cond ((digit && true) && fits) (Number.Of v) Number.Nothing ≡ Number.Nothing
@@ -61,28 +61,28 @@ module _ (value byte : ℕ) (bytes : List ℕ) where
       go true true false fit v w h e = ap (λ (t : Bool). cond t (Number.Of w) Number.Nothing) (h refl)
       go true true true fit v w h e = absurd (let never : _≡_ {A = ℕ} 0 1 = cc in omega arith)
 
-  -- the rest is read behind the value so far
-  goes-on : {next : ℕ} → numberBehind value (byte ∷ []) ≡ Number.Of next → numberBehind value (byte ∷ bytes) ≡ numberBehind next bytes
-  unfolding numberBehind every valueBehind
+  -- the rest is read after the value so far
+  goes-on : {next : ℕ} → numberAfter value (byte ∷ []) ≡ Number.Of next → numberAfter value (byte ∷ bytes) ≡ numberAfter next bytes
+  unfolding numberAfter every valueAfter
   goes-on {next} = let with-byte : ℕ = value * 10 + (byte - 48) in go (isDigit byte) (leb with-byte largest) with-byte
     where
       go : (digit fits : Bool) (v : ℕ)
           → cond ((digit && true) && fits) (Number.Of v) Number.Nothing ≡ Number.Of next
-          → cond ((digit && every isDigit bytes) && leb (valueBehind v bytes) largest) (Number.Of (valueBehind v bytes)) Number.Nothing ≡ numberBehind next bytes
-      go true true v e = let same : v ≡ next = cc in ap (λ (n : ℕ). numberBehind n bytes) same
+          → cond ((digit && every isDigit bytes) && leb (valueAfter v bytes) largest) (Number.Of (valueAfter v bytes)) Number.Nothing ≡ numberAfter next bytes
+      go true true v e = let same : v ≡ next = cc in ap (λ (n : ℕ). numberAfter n bytes) same
       go true false v e = absurd (let never : _≡_ {A = ℕ} 0 1 = cc in omega arith)
       go false fits v e = absurd (let never : _≡_ {A = ℕ} 0 1 = cc in omega arith)
 
 -- a value that was read has 64 bits
-pub has-64-bits : (value : ℕ) (bytes : List ℕ) {next : ℕ} → numberBehind value bytes ≡ Number.Of next → next ≤ largest
-unfolding numberBehind
-has-64-bits value bytes {next} = go (every isDigit bytes) (leb (valueBehind value bytes) largest) refl
+pub has-64-bits : (value : ℕ) (bytes : List ℕ) {next : ℕ} → numberAfter value bytes ≡ Number.Of next → next ≤ largest
+unfolding numberAfter
+has-64-bits value bytes {next} = go (every isDigit bytes) (leb (valueAfter value bytes) largest) refl
   where
-    go : (digits fits : Bool) → leb (valueBehind value bytes) largest ≡ fits
-        → cond (digits && fits) (Number.Of (valueBehind value bytes)) Number.Nothing ≡ Number.Of next → next ≤ largest
+    go : (digits fits : Bool) → leb (valueAfter value bytes) largest ≡ fits
+        → cond (digits && fits) (Number.Of (valueAfter value bytes)) Number.Nothing ≡ Number.Of next → next ≤ largest
     go true true f e =
-        let same : valueBehind value bytes ≡ next = cc in
-        let least : valueBehind value bytes ≤ largest = leb-true (valueBehind value bytes) largest f in
+        let same : valueAfter value bytes ≡ next = cc in
+        let least : valueAfter value bytes ≤ largest = leb-true (valueAfter value bytes) largest f in
         omega arith
     go true false f e = absurd (let never : _≡_ {A = ℕ} 0 1 = cc in omega arith)
     go false fits f e = absurd (let never : _≡_ {A = ℕ} 0 1 = cc in omega arith)
@@ -90,22 +90,22 @@ has-64-bits value bytes {next} = go (every isDigit bytes) (leb (valueBehind valu
 -- ---- a walk: what is left of the word says what the whole word does
 
 module _ (word : List ℕ) (i value : ℕ) {whole : Number} where
-  step : i < length word → numberBehind value (drop i word) ≡ whole → numberBehind value (getD word i 0 ∷ drop (suc i) word) ≡ whole
-  step h e = ap (numberBehind value) (sym (drop-cons word i 0 h)) ∙ e
+  step : i < length word → numberAfter value (drop i word) ≡ whole → numberAfter value (getD word i 0 ∷ drop (suc i) word) ≡ whole
+  step h e = ap (numberAfter value) (sym (drop-cons word i 0 h)) ∙ e
 
-  pub walk-more : {next : ℕ} → i < length word → numberBehind value (getD word i 0 ∷ []) ≡ Number.Of next
-      → numberBehind value (drop i word) ≡ whole → numberBehind next (drop (i + 1) word) ≡ whole
+  pub walk-more : {next : ℕ} → i < length word → numberAfter value (getD word i 0 ∷ []) ≡ Number.Of next
+      → numberAfter value (drop i word) ≡ whole → numberAfter next (drop (i + 1) word) ≡ whole
   walk-more {next} h one e =
-      ap (λ (k : ℕ). numberBehind next (drop k word)) (add-one i) ∙ sym (goes-on value (getD word i 0) (drop (suc i) word) one) ∙ step h e
+      ap (λ (k : ℕ). numberAfter next (drop k word)) (add-one i) ∙ sym (goes-on value (getD word i 0) (drop (suc i) word) one) ∙ step h e
 
-  pub walk-refused : i < length word → numberBehind value (getD word i 0 ∷ []) ≡ Number.Nothing
-      → numberBehind value (drop i word) ≡ whole → Number.Nothing ≡ whole
+  pub walk-refused : i < length word → numberAfter value (getD word i 0 ∷ []) ≡ Number.Nothing
+      → numberAfter value (drop i word) ≡ whole → Number.Nothing ≡ whole
   walk-refused h one e = sym (stays-refused value (getD word i 0) (drop (suc i) word) one) ∙ step h e
 
-  pub walk-end : length word ≤ i → value ≤ largest → numberBehind value (drop i word) ≡ whole → Number.Of value ≡ whole
-  unfolding numberBehind every valueBehind
+  pub walk-end : length word ≤ i → value ≤ largest → numberAfter value (drop i word) ≡ whole → Number.Of value ≡ whole
+  unfolding numberAfter every valueAfter
   walk-end h fits e =
-      sym (ap (λ (t : Bool). cond t (Number.Of value) Number.Nothing) (le-leb value largest fits)) ∙ sym (ap (numberBehind value) (drop-of-length-le word h)) ∙ e
+      sym (ap (λ (t : Bool). cond t (Number.Of value) Number.Nothing) (le-leb value largest fits)) ∙ sym (ap (numberAfter value) (drop-of-length-le word h)) ∙ e
 
 -- ---- a word is one byte or more
 
@@ -114,7 +114,7 @@ unfolding numberOf isNumber
 no-word [] e = refl
 no-word (byte ∷ bytes) e = absurd (omega (arith, e))
 
-pub a-word : (word : List ℕ) → 0 < length word → numberBehind 0 word ≡ numberOf word
-unfolding numberOf isNumber numberBehind
+pub a-word : (word : List ℕ) → 0 < length word → numberAfter 0 word ≡ numberOf word
+unfolding numberOf isNumber numberAfter
 a-word [] h = absurd (omega arith)
 a-word (byte ∷ bytes) h = refl

@@ -12,7 +12,7 @@ use borrow.Author.Tests.{ltb-true, ltb-false, le-leb}
 use Rattle.laws.specs.Every.{every}
 use Rattle.laws.proofs.Choices.{both, both-left, both-right}
 use Rattle.decimals.specs.declared.Number.{Number}
-use Rattle.decimals.specs.Decimals.{sign, decimal, isDigit, valueBehind, valueOf, largest, isEmpty, isNumber, numberOf}
+use Rattle.decimals.specs.Decimals.{sign, decimal, isDigit, valueAfter, valueOf, largest, isEmpty, isNumber, numberOf}
 use Rattle.decimals.proofs.Digits.{one-digit, more-digits}
 
 -- ---- the induction
@@ -51,13 +51,13 @@ no-leading-zero =
 
 -- ---- its value
 
-value-more : (value : ℕ) (bytes : List ℕ) (byte : ℕ) → valueBehind value (bytes ++ byte ∷ []) ≡ valueBehind value bytes * 10 + (byte - 48)
-unfolding valueBehind
+value-more : (value : ℕ) (bytes : List ℕ) (byte : ℕ) → valueAfter value (bytes ++ byte ∷ []) ≡ valueAfter value bytes * 10 + (byte - 48)
+unfolding valueAfter
 value-more value [] byte = refl
 value-more value (b ∷ bytes) byte = value-more (value * 10 + (b - 48)) bytes byte
 
 pub has-value : (n : ℕ) → valueOf (decimal n) ≡ n
-unfolding valueBehind
+unfolding valueAfter
 has-value =
     by-digits (λ n. valueOf (decimal n) ≡ n)
     (λ n h. ap valueOf (one-digit n h) ∙ omega arith)
@@ -102,6 +102,6 @@ round-trip n h =
 
 -- "Leading zeros are allowed and carry nothing."
 pub leading-zero : (word : List ℕ) → 0 < length word → numberOf (sign 0 ∷ word) ≡ numberOf word
-unfolding numberOf isNumber every valueBehind
+unfolding numberOf isNumber every valueAfter
 leading-zero [] h = absurd (omega arith)
 leading-zero (byte ∷ bytes) h = refl

@@ -24,12 +24,12 @@ decimal n = digits (suc n) n
 abbrev pub isDigit : ℕ → Bool
 isDigit byte = leb 48 byte && leb byte 57
 
-unfoldable pub valueBehind : ℕ → List ℕ → ℕ
-valueBehind value [] = value
-valueBehind value (byte ∷ bytes) = valueBehind (value * 10 + (byte - 48)) bytes
+unfoldable pub valueAfter : ℕ → List ℕ → ℕ
+valueAfter value [] = value
+valueAfter value (byte ∷ bytes) = valueAfter (value * 10 + (byte - 48)) bytes
 
 abbrev pub valueOf : List ℕ → ℕ
-valueOf = valueBehind 0
+valueOf = valueAfter 0
 
 -- The largest number of 64 bits.
 abbrev pub largest : ℕ
@@ -39,10 +39,10 @@ abbrev pub isEmpty : List ℕ → Bool
 isEmpty [] = true
 isEmpty (byte ∷ bytes) = false
 
--- The number that the digits of a row make behind a value, as long as it has 64 bits.
-unfoldable pub numberBehind : ℕ → List ℕ → Number
-numberBehind value bytes =
-    cond (every isDigit bytes && leb (valueBehind value bytes) largest) (Number.Of (valueBehind value bytes)) Number.Nothing
+-- The number that the digits of a row make after a value, as long as it has 64 bits.
+unfoldable pub numberAfter : ℕ → List ℕ → Number
+numberAfter value bytes =
+    cond (every isDigit bytes && leb (valueAfter value bytes) largest) (Number.Of (valueAfter value bytes)) Number.Nothing
 
 -- "With a value of at most 18446744073709551615 (64 bits). Leading zeros are allowed and carry nothing."
 unfoldable pub isNumber : List ℕ → Bool

@@ -5,7 +5,7 @@ ghost use Prim.Native.Nat.{_%_};
 ghost use mathlib.Core.Path.{_≡_};
 ghost use mathlib.Core.List.{[], _∷_};
 ghost use Rattle.texts.specs.Sheet.{sheet, puts};
-ghost use Rattle.decimals.specs.Decimals.{sign, decimal, numberBehind, numberOf};
+ghost use Rattle.decimals.specs.Decimals.{sign, decimal, numberAfter, numberOf};
 
 const BASE: u64 = 10;
 
@@ -54,9 +54,9 @@ pub fn read_number(word: &[u8]) -> Number
     Number::Of(value)
 }
 
-// The number with one byte more behind it, if that is a digit and the value still fits: tested before it could wrap.
+// The number with one byte more after it, if that is a digit and the value still fits: tested before it could wrap.
 fn with_byte(value: u64, byte: u8) -> Number
-    ensures { λ r. ⌜ r ≡ numberBehind value (byte ∷ []) ⌝ }
+    ensures { λ r. ⌜ r ≡ numberAfter value (byte ∷ []) ⌝ }
 {
     if byte < ZERO {
         return Number::Nothing;

@@ -4,15 +4,17 @@ use libc::STDIN_FILENO;
 use libc::STDOUT_FILENO;
 use panel::Panel;
 use replies::lines::answer_line;
-use texts::lines::line_end;
+use texts::lines::LINE_FEED;
+use texts::lines::least;
 use texts::lines::move_to_front;
+use texts::lines::place_of;
 ghost use Prim.Native.Nat.{_≤_};
 ghost use lib.ListN.{length};
 
 // An unfinished line is kept up to the first byte that makes it too long: what follows cannot mend it.
 const MOST_KEPT: usize = 257;
 
-// When so much is written the sheet is sent off: the longest answer, of 64 blinds and 512 links, still fits behind it.
+// When so much is written the sheet is sent off: the longest answer, of 64 blinds and 512 links, still fits after it.
 const FULL: usize = 32_768;
 
 struct Bench {
@@ -61,11 +63,15 @@ fn hear(bench: Bench, input: &mut [u8], out: &mut [u8]) -> Bench {
     let next = answer_lines(bench, &input[..have], out);
     let start = next.kept;
     let kept = move_to_front(input, start, left(start, have));
-    let heard = Bench { kept, ..next };
-    send(heard, out)
+    send(out, next.at);
+    Bench {
+        kept,
+        at: 0,
+        ..next
+    }
 }
 
-// Reads behind the bytes that are kept, and hands back how many there are then; 0 where nothing came.
+// Reads after the bytes that are kept, and hands back how many there are then; 0 where nothing came.
 fn fetch(input: &mut [u8], kept: usize) -> usize
     ensures { λ r. ⌜ r ≤ length (now (input .exit)) ⌝ }
 {
@@ -88,21 +94,15 @@ fn left(start: usize, have: usize) -> usize {
     least(have - start, MOST_KEPT)
 }
 
-fn least(a: usize, b: usize) -> usize
-    ensures { λ r. ⌜ r ≤ b ⌝ }
-{
-    if a < b { a } else { b }
-}
-
 // Every line that has ended; what is kept then begins where the last of them ended.
 fn answer_lines(bench: Bench, input: &[u8], out: &mut [u8]) -> Bench {
     let mut next = bench;
     let mut start = 0;
-    let mut end = line_end(input, 0);
+    let mut end = place_of(LINE_FEED, input, 0);
     while end < input.len() {
         next = answer(next, &input[start..end], out);
         start = end + 1;
-        end = line_end(input, start);
+        end = place_of(LINE_FEED, input, start);
     }
     Bench {
         kept: start,
@@ -112,9 +112,9 @@ fn answer_lines(bench: Bench, input: &[u8], out: &mut [u8]) -> Bench {
 
 fn answer(bench: Bench, line: &[u8], out: &mut [u8]) -> Bench {
     let number = one_more(bench.lines);
-    let told = answer_line(bench.panel, number, line, out, bench.at);
-    let panel = told.panel;
-    let at = told.at;
+    let done = answer_line(bench.panel, number, line, out, bench.at);
+    let panel = done.panel;
+    let at = done.at;
     let next = Bench {
         panel,
         lines: number,
@@ -124,34 +124,27 @@ fn answer(bench: Bench, line: &[u8], out: &mut [u8]) -> Bench {
     if at < FULL {
         return next;
     }
-    send(next, out)
+    send(out, at);
+    Bench { at: 0, ..next }
 }
 
 fn one_more(lines: u64) -> u64 {
     if lines < u64::MAX { lines + 1 } else { lines }
 }
 
-// A last line without a line feed is a line too.
+// A last line without a line feed is a line too; where none is kept, the line is empty and passed over.
 fn finish(bench: Bench, input: &[u8], out: &mut [u8]) -> Bench {
     let kept = least(bench.kept, input.len());
-    if kept == 0 {
-        return close(bench, out);
-    }
     let last = answer(bench, &input[..kept], out);
-    close(last, out)
-}
-
-fn close(bench: Bench, out: &[u8]) -> Bench {
-    let sent = send(bench, out);
+    send(out, last.at);
     Bench {
         is_open: false,
-        ..sent
+        ..last
     }
 }
 
-// Writes the answers out; the sheet is empty again.
-fn send(bench: Bench, out: &[u8]) -> Bench {
-    let at = least(bench.at, out.len());
-    io::write_all(STDOUT_FILENO, &out[..at]);
-    Bench { at: 0, ..bench }
+// Writes the answers out.
+fn send(out: &[u8], at: usize) {
+    let end = least(at, out.len());
+    io::write_all(STDOUT_FILENO, &out[..end]);
 }

@@ -3,28 +3,33 @@
 use Prim.Native.Nat.{ℕ}
 use mathlib.Core.List.{List, [], _∷_}
 use lib.ListN.{replicate}
-use Rattle.answers.specs.Answers.{Outcome}
+use Rattle.answers.specs.Rules.{Result, carried}
 use Rattle.tags.specs.Tags.{places}
+use Rattle.params.specs.Numbers.{rowOf}
+use Rattle.outputs.specs.Reports.{noReport}
+use Rattle.link.specs.Link.{linkOf}
 use Rattle.panel.specs.Panel.{Model, modelOf, bare}
 use Rattle.panel.specs.Strip.{terminals}
-use Rattle.panel.specs.Calls.{Left}
-use Rattle.bus.specs.Reports.{noReport}
-use Rattle.bus.specs.Telegrams.{telegrammed}
-use Rattle.bus.specs.TimeSteps.{timeStepped}
-use Rattle.bus.specs.Strip.{stripRead}
-use Rattle.edits.specs.Edits.{installed, blindRemoved, paramsWritten, linkOf, linkAdded, linkRemoved, inventoried}
-use Rattle.splices.specs.Splices.{splicedIn, splicedOut}
+use Rattle.panel.specs.Calls.{Cells, row, noCells, CallRule}
+use Rattle.bus.specs.Telegrams.{telegramRule}
+use Rattle.bus.specs.TimeSteps.{stepRule}
+use Rattle.readings.specs.Strip.{stripRule}
+use Rattle.readings.specs.Inventory.{inventoryRule}
+use Rattle.edits.specs.Edits.{installRule, removeRule, writeRule}
+use Rattle.wiring.specs.Wiring.{addRule, removeLinkRule}
+use Rattle.splices.specs.Splices.{spliceInRule, spliceOutRule}
 use Rattle.texts.specs.Text.{text}
 use Rattle.texts.specs.Sheet.{Sheet, sheet, puts, joined}
 use Rattle.decimals.specs.Decimals.{decimal}
 use Rattle.commands.specs.declared.Command.{Command}
+use Rattle.commands.specs.declared.Edit.{Edit}
 use Rattle.commands.specs.declared.Fault.{Fault}
-use Rattle.commands.specs.declared.Said.{Said}
-use Rattle.commands.specs.Lines.{lineSays}
-use Rattle.replies.specs.declared.Told.{Told}
+use Rattle.commands.specs.declared.Meaning.{Meaning}
+use Rattle.commands.specs.Lines.{lineMeans}
+use Rattle.replies.specs.declared.After.{After}
 use Rattle.shows.specs.Numbers.{spaced, counted}
 use Rattle.shows.specs.Cells.{countedWith}
-use Rattle.shows.specs.Shows.{panelText}
+use Rattle.panel_text.specs.PanelText.{panelText}
 
 -- A panel, and the sheet that the answers are written on.
 pub record Desk : Type 0 where
@@ -32,7 +37,7 @@ pub record Desk : Type 0 where
   pub page : Sheet
 
 -- What a result says: the panel, and the sheet as far as it is written.
-abbrev pub deskOf : Told → List ℕ → Desk
+abbrev pub deskOf : After → List ℕ → Desk
 deskOf r bytes = record { panel = modelOf (r .panel); page = sheet bytes (r .at) }
 
 -- The panel is another one, and a text more is written.
@@ -40,29 +45,36 @@ abbrev pub wrote : Model → List ℕ → Sheet → Desk
 wrote m line page = record { panel = m; page = puts line page }
 
 -- "NUMBER COUNT" for an edit.
-abbrev pub edited : Outcome Model → Sheet → Desk
-edited o = wrote (o .leaves) (counted (o .answer) (o .count))
+abbrev pub edited : Result Model Cells → Sheet → Desk
+edited r = wrote (r .leaves) (counted (r .answer) (r .count))
 
 -- "NUMBER COUNT" and the cells for a call that was lent some.
-abbrev pub celled : ℕ → Outcome Left → Sheet → Desk
-celled idle o = wrote (o .leaves .panel) (countedWith idle (o .answer) (o .count) (o .leaves .cells))
+abbrev pub celled : ℕ → Result Model Cells → Sheet → Desk
+celled idle r = wrote (r .leaves) (countedWith idle (r .answer) (r .count) (r .cells .lent))
+
+-- "NUMBER BLINDS LOWEST" for the inventory.
+abbrev pub inventoried : Result Model Cells → Sheet → Desk
+inventoried r = wrote (r .leaves) (joined (decimal (r .answer) ∷ spaced (r .count) ∷ spaced (r .second) ∷ []))
+
+-- The rule of an edit.
+unfoldable pub editRule : Edit → CallRule
+editRule (Edit.Install tag terminal set) = installRule tag terminal (rowOf set)
+editRule (Edit.Remove tag) = removeRule tag
+editRule (Edit.Params tag set) = writeRule tag (rowOf set)
+editRule (Edit.Link address tag kind) = addRule (linkOf address tag kind)
+editRule (Edit.Unlink address tag kind) = removeLinkRule (linkOf address tag kind)
+editRule (Edit.In t n) = spliceInRule t n
+editRule (Edit.Out t n) = spliceOutRule t n
 
 -- What a command does to a panel and writes.
-unfoldable pub carried : Command → Model → Sheet → Desk
-carried Command.New m = wrote bare (text "0")
-carried Command.Show m = wrote m (panelText m)
-carried Command.Strip m = celled 0 (stripRead m (replicate terminals 0))
-carried Command.Inv m =
-    wrote m (joined (decimal (inventoried m .answer) ∷ spaced (inventoried m .count) ∷ spaced (inventoried m .leaves) ∷ []))
-carried (Command.Install tag terminal set) m = edited (installed tag terminal set m)
-carried (Command.Remove tag) m = edited (blindRemoved tag m)
-carried (Command.Params tag set) m = edited (paramsWritten tag set m)
-carried (Command.Link address tag kind) m = edited (linkAdded (linkOf address tag kind) m)
-carried (Command.Unlink address tag kind) m = edited (linkRemoved (linkOf address tag kind) m)
-carried (Command.In t n) m = edited (splicedIn t n m)
-carried (Command.Out t n) m = edited (splicedOut t n m)
-carried (Command.Tel address value) m = celled noReport (telegrammed address value m (replicate places noReport))
-carried (Command.Time dt) m = celled noReport (timeStepped dt m (replicate places noReport))
+unfoldable pub carriedOut : Command → Model → Sheet → Desk
+carriedOut Command.New m = wrote bare (text "0")
+carriedOut Command.Show m = wrote m (panelText m)
+carriedOut Command.Strip m = celled 0 (carried stripRule m (row (replicate terminals 0)))
+carriedOut Command.Inv m = inventoried (carried inventoryRule m noCells)
+carriedOut (Command.Edit edit) m = edited (carried (editRule edit) m noCells)
+carriedOut (Command.Tel address value) m = celled noReport (carried (telegramRule address value) m (row (replicate places noReport)))
+carriedOut (Command.Time dt) m = celled noReport (carried (stepRule dt) m (row (replicate places noReport)))
 
 -- "One line `error: ` and what is wrong, with the number of the input line".
 unfoldable pub faultText : Fault → List ℕ
@@ -74,15 +86,15 @@ faultText Fault.NotANumber = text "not a decimal number of up to 64 bits"
 unfoldable pub errorText : ℕ → Fault → List ℕ
 errorText number fault = joined (text "error: line " ∷ decimal number ∷ text ": " ∷ faultText fault ∷ [])
 
--- The line feed behind an answer.
+-- The line feed after an answer.
 abbrev pub ended : Desk → Desk
 ended desk = wrote (desk .panel) (10 ∷ []) (desk .page)
 
 -- What a line does to a panel and writes: "nothing changes" where it is wrong, and nothing is written where it is passed over.
-unfoldable pub replied : ℕ → Said → Model → Sheet → Desk
-replied number Said.Silent m page = record { panel = m; page = page }
-replied number (Said.Call command) m page = ended (carried command m page)
-replied number (Said.Wrong fault) m page = ended (wrote m (errorText number fault) page)
+unfoldable pub replied : ℕ → Meaning → Model → Sheet → Desk
+replied number Meaning.Silent m page = record { panel = m; page = page }
+replied number (Meaning.Call command) m page = ended (carriedOut command m page)
+replied number (Meaning.Wrong fault) m page = ended (wrote m (errorText number fault) page)
 
 unfoldable pub lineDone : ℕ → List ℕ → Model → Sheet → Desk
-lineDone number line = replied number (lineSays line)
+lineDone number line = replied number (lineMeans line)

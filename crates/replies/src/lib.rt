@@ -6,7 +6,7 @@ pub mod lines;
 use panel::Panel;
 
 // The panel as a line leaves it, and how far the sheet is written.
-pub struct Told {
+pub struct After {
     pub panel: Panel,
     pub at: usize,
 }

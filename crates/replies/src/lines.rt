@@ -1,9 +1,9 @@
 // A line in, an answer line out.
-use crate::Told;
+use crate::After;
 use crate::calls::carry_out;
 use commands::Command;
 use commands::Fault;
-use commands::Said;
+use commands::Meaning;
 use commands::lines::read_line;
 use decimals::put_number;
 use panel::Panel;
@@ -11,35 +11,35 @@ use texts::sheets::put_text;
 ghost use mathlib.Core.Path.{_≡_};
 ghost use Rattle.panel.specs.Panel.{modelOf};
 ghost use Rattle.texts.specs.Sheet.{sheet, puts};
-ghost use Rattle.replies.specs.Replies.{deskOf, carried, ended, wrote, faultText, errorText, replied, lineDone};
+ghost use Rattle.replies.specs.Replies.{deskOf, carriedOut, ended, wrote, faultText, errorText, replied, lineDone};
 
 // Carries out a line, given without its line feed, and writes its answer. The number is the line's own.
-pub fn answer_line(panel: Panel, number: u64, line: &[u8], out: &mut [u8], at: usize) -> Told
+pub fn answer_line(panel: Panel, number: u64, line: &[u8], out: &mut [u8], at: usize) -> After
     ensures { λ r. ⌜ deskOf r (now (out .exit)) ≡ lineDone number (now (line .entry)) (modelOf panel) (sheet (now (out .entry)) at) ⌝ }
 {
-    let said = read_line(line);
-    match said {
-        Said::Silent => Told { panel, at },
-        Said::Call(command) => call(panel, command, out, at),
-        Said::Wrong(fault) => complain(panel, number, fault, out, at),
+    let meaning = read_line(line);
+    match meaning {
+        Meaning::Silent => After { panel, at },
+        Meaning::Call(command) => call(panel, command, out, at),
+        Meaning::Wrong(fault) => complain(panel, number, fault, out, at),
     }
 }
 
-fn call(panel: Panel, command: Command, out: &mut [u8], at: usize) -> Told
-    ensures { λ r. ⌜ deskOf r (now (out .exit)) ≡ ended (carried command (modelOf panel) (sheet (now (out .entry)) at)) ⌝ }
+fn call(panel: Panel, command: Command, out: &mut [u8], at: usize) -> After
+    ensures { λ r. ⌜ deskOf r (now (out .exit)) ≡ ended (carriedOut command (modelOf panel) (sheet (now (out .entry)) at)) ⌝ }
 {
-    let told = carry_out(panel, command, out, at);
-    let next = put_text(out, told.at, b"\n");
-    Told { at: next, ..told }
+    let after = carry_out(panel, command, out, at);
+    let next = put_text(out, after.at, b"\n");
+    After { at: next, ..after }
 }
 
 // What is wrong with a line; nothing changes.
-fn complain(panel: Panel, number: u64, fault: Fault, out: &mut [u8], at: usize) -> Told
+fn complain(panel: Panel, number: u64, fault: Fault, out: &mut [u8], at: usize) -> After
     ensures { λ r. ⌜ deskOf r (now (out .exit)) ≡ ended (wrote (modelOf panel) (errorText number fault) (sheet (now (out .entry)) at)) ⌝ }
 {
     let error = put_error(out, at, number, fault);
     let next = put_text(out, error, b"\n");
-    Told { panel, at: next }
+    After { panel, at: next }
 }
 
 fn put_error(out: &mut [u8], at: usize, number: u64, fault: Fault) -> usize

@@ -1,15 +1,14 @@
-// The cells of an answer line: those that say something, each behind its place; a refused call has none to show.
+// The cells of an answer line: those that say something, each after its place; a refused call has none to show.
 use crate::numbers::put_counted;
 use crate::numbers::put_spaced;
 use answers::DONE;
 use decimals::put_number;
+use outputs::NO_REPORT;
 use texts::sheets::put_text;
 ghost use mathlib.Core.Path.{_≡_};
-ghost use Rattle.bus.specs.Reports.{noReport};
+ghost use Rattle.outputs.specs.Reports.{noReport};
 ghost use Rattle.texts.specs.Sheet.{sheet, puts};
 ghost use Rattle.shows.specs.Cells.{cellShown, cellText, cellsText, countedWith};
-
-pub const NO_REPORT: u16 = 512;
 
 pub const OFF: u8 = 0;
 

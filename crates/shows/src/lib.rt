@@ -1,6 +1,3 @@
-// Answers as text: numbers with their counts, cells, and the whole panel in one line, each put on a lent sheet.
-mod blinds;
+// Answers as text: numbers with their counts, and cells, each put on a lent sheet.
 pub mod cells;
-mod motions;
 pub mod numbers;
-pub mod panels;

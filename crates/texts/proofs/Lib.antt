@@ -1,3 +1,4 @@
 pub mod Sheet
-pub mod Parting
-pub mod Moving
+pub mod NextWord
+pub mod NextLine
+pub mod MovedRow

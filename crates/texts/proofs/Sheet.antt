@@ -19,7 +19,7 @@ unfolding puts
 puts-append [] ys s = refl
 puts-append (x ∷ xs) ys s = puts-append xs ys (put x s)
 
--- a byte behind a text
+-- a byte after a text
 pub puts-byte : (xs : List ℕ) (byte : ℕ) (s : Sheet) → puts (xs ++ byte ∷ []) s ≡ put byte (puts xs s)
 unfolding puts
 puts-byte xs byte s = puts-append xs (byte ∷ []) s

@@ -1,18 +1,18 @@
 // Lines in a row of bytes that arrives in parts: where a line ends, and what of it waits at the front for the rest.
-ghost use Prim.Native.Nat.{_+_};
+ghost use Prim.Native.Nat.{_+_, min};
 ghost use mathlib.Core.Path.{_≡_};
 ghost use lib.ListN.{length, drop};
-ghost use Rattle.texts.specs.Lines.{inLine, movable, moved};
+ghost use Rattle.texts.specs.Lines.{until, movable, moved};
 
-const LINE_FEED: u8 = 10;
+pub const LINE_FEED: u8 = 10;
 
-// The place of the first line feed from here on, or the end of the row.
-pub fn line_end(bytes: &[u8], from: usize) -> usize
-    ensures { λ r. ⌜ r ≡ from + inLine (drop from (now (bytes .entry))) ⌝ }
+// The place of the first such byte from here on, or the end of the row.
+pub fn place_of(mark: u8, bytes: &[u8], from: usize) -> usize
+    ensures { λ r. ⌜ r ≡ from + until mark (drop from (now (bytes .entry))) ⌝ }
 {
     let mut at = from;
     while at < bytes.len() {
-        if bytes[at] == LINE_FEED {
+        if bytes[at] == mark {
             break;
         }
         at += 1;
@@ -35,4 +35,11 @@ pub fn move_to_front(bytes: &mut [u8], start: usize, count: usize) -> usize
         bytes[i] = bytes[start + i];
     }
     count
+}
+
+// The lesser of two numbers: how far a row is to be read, and how long it is.
+pub fn least(a: usize, b: usize) -> usize
+    ensures { λ r. ⌜ r ≡ min a b ⌝ }
+{
+    if a < b { a } else { b }
 }

@@ -37,8 +37,7 @@ pub +put-number-spec : {M : Type 1} → statement M
     )
     (put-number-at t)
     put-number.Post
-    (λ c κs. search needs)
-    (λ c κs. search needs)
+    (λ c κs. search needs) (λ c κs. search needs)
     (λ c. c .before .before .put .kept .0)
     (λ c.
     let called = c .before .before in
@@ -46,8 +45,7 @@ pub +put-number-spec : {M : Type 1} → statement M
     called .put .ensures
     ∙ put-one (start .args .n) (called .before .last-sign .result) (sheet (start .args .out .now) (start .args .at)) (called .before .last-sign .ensures) (omega arith))
     (λ c κs. (omega (arith, c .before .before .before .pre .0), tt))
-    (λ c κs. search needs)
-    (λ c κs. search needs)
+    (λ c κs. search needs) (λ c κs. search needs)
     (λ c. c .before .before .put2 .kept .0 ∙ c .before .before .before .before .before .before .before .put-number .kept .0)
     (λ c.
     let called = c .before .before in

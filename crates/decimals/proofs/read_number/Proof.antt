@@ -1,4 +1,4 @@
--- What is left of the word, read behind the value so far, says what the whole word does.
+-- What is left of the word, read after the value so far, says what the whole word does.
 -- Assumes nothing.
 use Prim.Native.Nat.{_-_, _≤_}
 use native.Mathlib.Omega.{arith}
@@ -6,13 +6,13 @@ use mathlib.Core.Path.{_≡_, refl, sym, _∙_}
 use mathlib.Core.List.{[], _∷_}
 use lib.ListN.{length, getD, drop}
 use borrow.Author.Needs.{needs}
-use Rattle.decimals.specs.Decimals.{largest, numberBehind, numberOf}
+use Rattle.decimals.specs.Decimals.{largest, numberAfter, numberOf}
 use Rattle.decimals.proofs.Reading.{has-64-bits, walk-more, walk-refused, walk-end, no-word, a-word}
 use Rattle.decimals.proofs.read_number.Statement.{statement}
 use Rattle.decimals.proofs.read_number.Tie as tie
 
 abbrev Inv-loop : tie.InvT-loop
-Inv-loop word value₀ i₀ i-end value i = (i-end ≡ length word) × (value ≤ largest) × (numberBehind value (drop i word) ≡ numberOf word)
+Inv-loop word value₀ i₀ i-end value i = (i-end ≡ length word) × (value ≤ largest) × (numberAfter value (drop i word) ≡ numberOf word)
 
 abbrev μ-loop : tie.MeasureT-loop
 μ-loop word value₀ i₀ i-end value i = i-end - i
@@ -48,12 +48,8 @@ read-number-spec =
     μ-loop
     returns
     loop-holds
-    (λ c. search needs)
-    (λ c κs. search needs)
-    (λ c. search needs)
-    (λ c. search needs)
+    (λ c. search needs) (λ c κs. search needs) (λ c. search needs) (λ c. search needs)
     returns-2
-    (λ c. search needs)
-    (λ c. omega arith)
+    (λ c. search needs) (λ c. omega arith)
     loop-again
     returns-3)

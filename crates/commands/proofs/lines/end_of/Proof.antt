@@ -2,7 +2,7 @@
 -- Assumes nothing.
 use native.Mathlib.Omega.{arith}
 use borrow.Author.Needs.{needs}
-use Rattle.commands.proofs.Endings.{nothing-ends, return-ends, other-ends}
+use Rattle.commands.proofs.LineEnd.{nothing-ends, return-ends, other-ends}
 use Rattle.commands.proofs.lines.end_of.Statement.{statement}
 use Rattle.commands.proofs.lines.end_of.Tie as tie
 

@@ -6,12 +6,12 @@ use Rattle.laws.specs.Fills.{tabulate}
 use Rattle.panel.specs.Panel.{Model, bare}
 use Rattle.texts.specs.Text.{text}
 use Rattle.texts.specs.Sheet.{Sheet, sheet}
-use Rattle.replies.specs.Replies.{Desk, carried}
+use Rattle.replies.specs.Replies.{Desk, carriedOut}
 use Rattle.replies.proofs.calls.begin.Statement.{statement}
 use Rattle.replies.proofs.calls.begin.Tie as tie
 
 returns : tie.Need-returns
-unfolding carried text tabulate
+unfolding carriedOut text tabulate
 returns c =
     let written = c .before .before in
     ap {B = Desk} (λ (m : Model). record { panel = m; page = sheet (written .put-text .last .0) (written .put-text .result) }) (written .before .before .before .empty .ensures)

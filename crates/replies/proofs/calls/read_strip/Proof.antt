@@ -2,22 +2,22 @@
 -- Assumes nothing.
 use mathlib.Core.Path.{ap, _∙_}
 use borrow.Author.Needs.{needs}
-use Rattle.answers.specs.Answers.{Outcome}
-use Rattle.panel.specs.Panel.{modelOf}
-use Rattle.panel.specs.Calls.{Left}
+use Rattle.answers.specs.Rules.{Result}
+use Rattle.panel.specs.Panel.{Model, modelOf}
+use Rattle.panel.specs.Calls.{Cells}
 use Rattle.texts.specs.Sheet.{Sheet, sheet}
-use Rattle.replies.specs.Replies.{Desk, celled, carried}
+use Rattle.replies.specs.Replies.{Desk, celled, carriedOut}
 use Rattle.replies.proofs.calls.read_strip.Statement.{statement}
 use Rattle.replies.proofs.calls.read_strip.Tie as tie
 
 returns : tie.Need-returns
-unfolding carried
+unfolding carriedOut
 returns c =
     let written = c .before .before .before in
     let done = written .before .before .before .before in
     let a = done .before .before .before .args in
     ap {B = Desk} (λ (page : Sheet). record { panel = modelOf (done .strip .result .panel); page = page }) (written .put-with-motors .ensures)
-    ∙ ap (λ (o : Outcome Left). celled 0 o (sheet (a .out .now) (a .at))) (done .strip .ensures)
+    ∙ ap (λ (o : Result Model Cells). celled 0 o (sheet (a .out .now) (a .at))) (done .strip .ensures .outcome)
 
 pub read-strip-spec : {M : Type 1} → statement M
 read-strip-spec = tie.close (tie.spec (λ c. search needs) (λ c κs. search needs) (λ c. search needs) (λ c κs. search needs) (λ c. search needs) returns)

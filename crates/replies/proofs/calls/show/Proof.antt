@@ -4,12 +4,12 @@ use mathlib.Core.Path.{ap}
 use borrow.Author.Needs.{needs}
 use Rattle.panel.specs.Panel.{modelOf}
 use Rattle.texts.specs.Sheet.{Sheet}
-use Rattle.replies.specs.Replies.{Desk, carried}
+use Rattle.replies.specs.Replies.{Desk, carriedOut}
 use Rattle.replies.proofs.calls.show.Statement.{statement}
 use Rattle.replies.proofs.calls.show.Tie as tie
 
 returns : tie.Need-returns
-unfolding carried
+unfolding carriedOut
 returns c =
     let written = c .before .before in
     ap {B = Desk} (λ (s : Sheet). record { panel = modelOf (written .before .before .before .args .panel); page = s }) (written .put-panel .ensures)

@@ -6,7 +6,7 @@ use mathlib.Core.Path.{_≡_, refl, sym}
 use mathlib.Core.List.{List}
 use lib.ListN.{length, getD}
 use borrow.Author.Needs.{needs}
-use Rattle.bus.specs.Reports.{noReport}
+use Rattle.outputs.specs.Reports.{noReport}
 use Rattle.texts.specs.Sheet.{sheet, puts, each}
 use Rattle.texts.proofs.Sheet.{each-none, each-turn, each-all, put-on}
 use Rattle.shows.specs.Cells.{cellText, cellsText}
@@ -55,11 +55,7 @@ put-reports-spec =
     Inv-loop
     μ-loop
     loop-holds
-    (λ c. search needs)
-    (λ c. search needs)
-    (λ c κs. search needs)
-    (λ c. search needs)
-    (λ c. omega arith)
+    (λ c. search needs) (λ c. search needs) (λ c κs. search needs) (λ c. search needs) (λ c. omega arith)
     loop-again
     same-length
     returns)

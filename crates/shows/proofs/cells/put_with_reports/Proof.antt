@@ -4,7 +4,7 @@ use mathlib.Core.Path.{ap, _∙_}
 use borrow.Author.Needs.{needs}
 use borrow.Author.Tests.{eq-eqb, ne-eqb}
 use Rattle.laws.specs.Fills.{tabulate}
-use Rattle.bus.specs.Reports.{noReport}
+use Rattle.outputs.specs.Reports.{noReport}
 use Rattle.texts.specs.Text.{text}
 use Rattle.texts.specs.Sheet.{sheet, puts}
 use Rattle.texts.proofs.Sheet.{put-first, put-second, put-joined}

@@ -9,7 +9,7 @@ use lib.ListN.{length, getD, set}
 use borrow.Author.Needs.{needs}
 use borrow.Author.Tests.{lt-ltb, le-ltb}
 use Rattle.texts.specs.Lines.{moved, movable}
-use Rattle.texts.proofs.Moving.{read-there, one-moved, none-moved, moved-size}
+use Rattle.texts.proofs.MovedRow.{read-there, one-moved, none-moved, moved-size}
 use Rattle.texts.proofs.lines.move_to_front.Statement.{statement}
 use Rattle.texts.proofs.lines.move_to_front.Tie as tie
 
@@ -80,8 +80,7 @@ move-to-front-spec =
     (λ c. omega (arith, c .before .loop .inv .1 .0, same (c .before)))
     (λ c. omega (arith, c .before .before .loop .inv .1 .0, same (c .before .before)))
     (λ c. omega (arith, c .before .before .loop .inv .1 .0, same (c .before .before)))
-    (λ c. search needs)
-    (λ c. omega arith)
+    (λ c. search needs) (λ c. omega arith)
     loop-again
     (λ c. same (c .before))
     returns-3)

@@ -7,7 +7,7 @@ use lib.ListN.{length, drop}
 use borrow.Author.Needs.{needs}
 use borrow.Author.Tests.{eq-eqb, ne-eqb}
 use Rattle.texts.specs.Text.{same}
-use Rattle.texts.proofs.Parting.{same-more, same-end, other-length}
+use Rattle.texts.proofs.NextWord.{same-more, same-end, other-length}
 use Rattle.texts.proofs.words.is_same.Statement.{statement}
 use Rattle.texts.proofs.words.is_same.Tie as tie
 
@@ -51,7 +51,6 @@ is-same-spec =
     (λ c. search needs)
     (λ c. omega (arith, c .before .before .before .loop .inv .0))
     returns-2
-    (λ c. search needs)
-    (λ c. omega arith)
+    (λ c. search needs) (λ c. omega arith)
     loop-again
     returns-3)

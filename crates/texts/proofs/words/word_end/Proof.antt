@@ -7,7 +7,7 @@ use lib.ListN.{length, drop}
 use borrow.Author.Needs.{needs}
 use mathlib.Core.Bool.{not}
 use Rattle.texts.specs.Words.{isBlank, letters}
-use Rattle.texts.proofs.Parting.{front-more, front-stops, front-end}
+use Rattle.texts.proofs.NextWord.{front-more, front-stops, front-end}
 use Rattle.texts.proofs.words.word_end.Statement.{statement}
 use Rattle.texts.proofs.words.word_end.Tie as tie
 

@@ -7,7 +7,7 @@ use lib.ListN.{length, drop}
 use borrow.Author.Needs.{needs}
 use borrow.Author.Tests.{not-true, not-false}
 use Rattle.texts.specs.Words.{isBlank, blanks}
-use Rattle.texts.proofs.Parting.{front-more, front-stops, front-end}
+use Rattle.texts.proofs.NextWord.{front-more, front-stops, front-end}
 use Rattle.texts.proofs.words.word_start.Statement.{statement}
 use Rattle.texts.proofs.words.word_start.Tie as tie
 

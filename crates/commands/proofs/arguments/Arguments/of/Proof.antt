@@ -7,8 +7,8 @@ use lib.ListN.{length, drop}
 use borrow.Author.Needs.{needs}
 use Rattle.texts.specs.Words.{words, blanks}
 use Rattle.commands.specs.Arguments.{nothing, heard}
-use Rattle.commands.proofs.Walking.{past-blanks, word-within, word-some}
-use Rattle.commands.proofs.Collecting.{heard-start, heard-more, heard-end}
+use Rattle.commands.proofs.WordByWord.{past-blanks, word-within, word-some}
+use Rattle.commands.proofs.Collected.{heard-start, heard-more, heard-end}
 use Rattle.commands.proofs.arguments.Arguments.of.Statement.{statement}
 use Rattle.commands.proofs.arguments.Arguments.of.Tie as tie
 
@@ -60,16 +60,13 @@ of-spec =
     (tie.spec
     Inv-loop
     μ-loop
-    (λ c κs. search needs)
-    (λ c κs. search needs)
+    (λ c κs. search needs) (λ c κs. search needs)
     loop-holds
     (λ c κs. search needs)
     (λ c. omega (arith, within c))
     (λ c. omega (arith, within c))
     (λ c. omega (arith, within c))
-    (λ c κs. search needs)
-    (λ c κs. search needs)
-    (λ c κs. search needs)
+    (λ c κs. search needs) (λ c κs. search needs) (λ c κs. search needs)
     loop-less
     loop-again
     returns)

@@ -10,9 +10,6 @@ unfolding with
 with-spec =
     tie.close
     (tie.spec
-    (λ c. search needs)
-    (λ c κs. search needs)
-    (λ c. search needs)
-    (λ c κs. search needs)
+    (λ c. search needs) (λ c κs. search needs) (λ c. search needs) (λ c κs. search needs)
     (λ c. simp (c .before .one-more .ensures, c .before .before .enum-told .given .1))
     (λ c. simp (c .with-value .ensures, c .before .before .word .given .1)))

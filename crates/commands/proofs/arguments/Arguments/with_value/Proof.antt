@@ -1,4 +1,4 @@
--- Past the eighth place nothing is stored.
+-- Past the last place nothing is stored.
 -- Assumes nothing.
 use native.Mathlib.Omega.{arith}
 use mathlib.Core.Path.{_≡_}
@@ -6,6 +6,7 @@ use mathlib.Core.Logic.{⊎-elim}
 use lib.ListN.{length}
 use lib.Seq.{set-out}
 use borrow.Author.Needs.{needs}
+use Rattle.commands.specs.Names.{most}
 use Rattle.commands.specs.Arguments.{with}
 use Rattle.commands.proofs.arguments.Arguments.with_value.Statement.{statement}
 use Rattle.commands.proofs.arguments.Arguments.with_value.Tie as tie
@@ -14,7 +15,7 @@ returns : tie.Need-returns
 unfolding with
 returns c =
     let self = c .before .before .args .self in
-    let size : length (self .values) ≡ 8 = search needs in
+    let size : length (self .values) ≡ most = search needs in
     ⊎-elim
     (λ w. simp (c .one-more .ensures, w .1))
     (λ w. simp (c .one-more .ensures, w .1, set-out (self .values) (self .count) (c .before .before .args .value) (omega (arith, size, w .0 .left))))
@@ -24,7 +25,5 @@ pub with-value-spec : {M : Type 1} → statement M
 with-value-spec =
     tie.close
     (tie.spec
-    (λ c. search needs)
-    (λ c. search needs)
-    (λ c κs. search needs)
+    (λ c. search needs) (λ c. search needs) (λ c κs. search needs)
     returns)

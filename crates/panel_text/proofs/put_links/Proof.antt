@@ -1,0 +1,71 @@
+-- After each turn the links up to this place are written; as many are held as the count says, and no more than there are places.
+-- Assumes nothing.
+use Prim.Native.Nat.{ℕ, _-_, _≤_, min}
+use native.Mathlib.Omega.{arith}
+use mathlib.Core.Path.{_≡_, sym, ap, _∙_}
+use mathlib.Core.List.{List}
+use lib.ListN.{length, getD, length-take}
+use lib.Seq.{getD-take}
+use borrow.Author.Needs.{needs}
+use Rattle.laws.proofs.Fills.{long}
+use Rattle.link.specs.declared.Link.{Link}
+use Rattle.links.specs.declared.table.Table.{Table}
+use Rattle.links.specs.Links.{heldOf}
+use Rattle.link.specs.Link.{nothing}
+use Rattle.texts.specs.Sheet.{sheet, puts, each}
+use Rattle.texts.proofs.Sheet.{each-none, each-turn, each-all, put-on}
+use Rattle.panel_text.specs.PanelText.{linkText, linksText}
+use Rattle.panel_text.proofs.put_links.Statement.{statement}
+use Rattle.panel_text.proofs.put_links.Tie as tie
+
+abbrev shown : Table → ℕ → List ℕ
+shown table place = linkText (getD (heldOf table .links) place nothing)
+
+abbrev Inv-loop : tie.InvT-loop
+Inv-loop out₀ at table count next₀ i₀ out next i = (i ≤ count) × ((count ≡ min (table .count) 512) × (sheet out next ≡ puts (each (shown table) i) (sheet out₀ at)))
+
+abbrev μ-loop : tie.MeasureT-loop
+μ-loop out₀ at table count next₀ i₀ out next i = count - i
+
+loop-holds : tie.Need-loop-holds Inv-loop μ-loop
+loop-holds c = (omega arith, (c .least .ensures, sym (each-none _ _)))
+
+loop-again : tie.Need-loop-again Inv-loop μ-loop
+loop-again c =
+    let at = c .before .before .before .before .before .before in
+    let a = at .before .before .before .args in
+    let t = a .t3 in (
+      omega arith,
+      (
+        at .loop .inv .1 .0,
+        each-turn (shown t) (at .loop .i) (sheet (a .out .now) (a .at)) (at .loop .inv .1 .1)
+            (c .before .before .put-link .ensures
+            ∙ ap (λ (l : Link). puts (linkText l) (sheet (at .loop .out) (at .loop .next))) (sym (getD-take (t .count) (t .links) (at .loop .i) nothing (omega (arith, at .loop .inv .1 .0))))),
+      ),
+    )
+
+same-length : tie.Need-same-length Inv-loop μ-loop
+same-length c =
+    let a = c .before .before .before .before .args in
+    put-on (each (shown (a .t3)) (c .before .loop .i)) (a .out .now) (a .at) (c .before .loop .inv .1 .1)
+
+returns : tie.Need-returns Inv-loop μ-loop
+unfolding linksText
+returns c =
+    let a = c .before .before .before .before .args in
+    let whole : length (a .t3 .links) ≡ 512 = search (long, needs) in
+    let held : length (heldOf (a .t3) .links) ≡ min (a .t3 .count) (length (a .t3 .links)) = length-take (a .t3 .count) (a .t3 .links) in
+    each-all (shown (a .t3)) (c .before .loop .i) (length (heldOf (a .t3) .links)) (sheet (a .out .now) (a .at)) (omega (arith, held, whole, c .before .loop .inv .1 .0)) (c .before .loop .inv .1 .1)
+
+pub put-links-spec : {M : Type 1} → statement M
+put-links-spec =
+    tie.close
+    (tie.spec
+    Inv-loop
+    μ-loop
+    (λ c κs. search needs)
+    loop-holds
+    (λ c. search needs) (λ c. omega arith) (λ c κs. search needs) (λ c. search needs) (λ c. omega arith)
+    loop-again
+    same-length
+    returns)
