@@ -1,9 +1,9 @@
 // The calls of the bus, each made n times: a call gets the panel that the one before left.
 use crate::tally::Tally;
-use bus::strips::strip;
 use bus::telegrams::telegram;
 use bus::time_steps::time_step;
 use panel::Panel;
+use readings::strips::strip;
 
 // How long the blinds of a workload surely run.
 const RUNNING: u64 = 540_000;
@@ -52,7 +52,7 @@ pub(crate) fn strips(first: Panel, n: u64, cells: &mut [u8]) -> Tally {
     let mut panel = first;
     let mut tally = Tally::none();
     for turn in 0..n {
-        panel.blinds[0].position = position_at(turn);
+        panel.blinds[0].place.position = position_at(turn);
         let done = strip(panel, cells);
         panel = done.panel;
         tally = tally.with(done.answer, done.count);

@@ -7,12 +7,12 @@ use crate::tally::Tally;
 use edits::blinds::install;
 use edits::blinds::remove_blind;
 use edits::blinds::write_params;
-use edits::inventory::inventory;
-use edits::wiring::add_link;
-use edits::wiring::remove_link;
 use panel::Panel;
+use readings::inventory::inventory;
 use splices::splice_in;
 use splices::splice_out;
+use wiring::add_link;
+use wiring::remove_link;
 
 // How many terminals come and go.
 const SPLICED: u64 = 1;
@@ -87,7 +87,7 @@ pub(crate) fn inventories(first: Panel, n: u64) -> Tally {
     let mut panel = first;
     let mut tally = Tally::none();
     for turn in 0..n {
-        panel.blinds[0].position = position_at(turn);
+        panel.blinds[0].place.position = position_at(turn);
         let stock = inventory(panel);
         tally = tally.with(stock.answer, stock.blinds as u64);
     }

@@ -2,12 +2,12 @@
 // running, and so many links, of which some share one address in the middle of the table.
 use bus::telegrams::telegram;
 use bus::time_steps::time_step;
-use edits::asked::Asked;
 use edits::blinds::install;
-use edits::wiring::add_link;
-use edits::wiring::remove_link;
 use panel::Panel;
+use params::Asked;
 use std::num::wrapping_add_u64;
+use wiring::add_link;
+use wiring::remove_link;
 
 // The kind MUD, a full run: every link is of it.
 pub(crate) const FULL_RUN: u64 = 4;
@@ -25,16 +25,6 @@ const BEHIND: u64 = 2000;
 
 // The rest time of a fresh blind, after which an order starts at once.
 const REST: u64 = 500;
-
-// The longest full run, so that blinds run for many calls, and the defaults else.
-const ASKED: Asked = Asked {
-    mudt: 600_000,
-    sst: 200,
-    rpt: REST,
-    rwa: 1,
-    rra: 1,
-    rfa: 0,
-};
 
 // A panel with so many blinds, all of them at rest or all running down, and so many links.
 pub(crate) fn fitted(blinds: u64, links: u64, run: bool) -> Panel {
@@ -55,8 +45,13 @@ pub(crate) fn alone(blinds: u64, links: u64) -> u64 {
     wrapping_add_u64(BEFORE, many - 1)
 }
 
+// The longest full run, so that blinds run for many calls, and the defaults else.
 pub(crate) fn asked() -> Asked {
-    ASKED
+    let set = Asked::default_set();
+    Asked {
+        mudt: 600_000,
+        ..set
+    }
 }
 
 fn with_blinds(blinds: u64) -> Panel {
@@ -68,7 +63,7 @@ fn with_blinds(blinds: u64) -> Panel {
 }
 
 fn with_blind(panel: Panel, tag: u64) -> Panel {
-    let done = install(panel, tag, tag, ASKED);
+    let done = install(panel, tag, tag, asked());
     done.panel
 }
 

@@ -59,7 +59,7 @@ impl Tally {
 
 fn place(present: Tags, tag: usize, terminal: u8, blind: Blind) -> u64 {
     if present.has(tag as u64) {
-        wrapping_add_u64(terminal as u64, blind.position as u64)
+        wrapping_add_u64(terminal as u64, blind.place.position as u64)
     } else {
         0
     }
