@@ -9,8 +9,8 @@ use Rattle.laws.specs.Every.{every, distinct, there}
 use Rattle.laws.specs.Any.{any}
 use Rattle.laws.specs.Kept.{kept}
 use Rattle.tags.specs.Tags.{howMany, lowestFree}
-use Rattle.params.specs.Numbers.{reactionOf, numbersOf, held, paramsOf, allowed}
-use Rattle.params.specs.Parameters.{defaults, within, inRange}
+use Rattle.params.specs.Numbers.{reactionOf, numbersOf, paramsOf, allowed}
+use Rattle.params.specs.Parameters.{defaults, within, timesInRange, inRange}
 use Rattle.heights.specs.Heights.{fullTime, bottom, nextPlace, endOf, target, wayTo, part, told}
 use Rattle.blind.specs.Orders.{started, orderedOff, orderedRunning, orderedAt, ordered, motorOff, stoppedAt, stopped, freshOf}
 use Rattle.blind.specs.Millisecond.{moved, arrived, shorter, ran, waited, millisecondAt, millisecond, milliseconds}
@@ -45,10 +45,10 @@ use Rattle.demands.specs.Cases.{right, cases, allRight, story}
 
 -- "W1 to W12 are shown to follow from the rules, as one list with one claim over it."
 pub cases-right : allRight ≡ true
-unfolding allRight cases right first carried tabulate every distinct there any kept howMany lowestFree reactionOf numbersOf held paramsOf allowed defaults within inRange fullTime bottom nextPlace endOf target wayTo part told started orderedOff orderedRunning orderedAt ordered motorOff stoppedAt stopped freshOf moved arrived shorter ran waited millisecondAt millisecond milliseconds motorOf active busy report soundWait soundRunning soundMotion sound mud ssud towards aimedBetween aimed followed sapbp acted rulerOf dutyUnder dutyOf ruled flagged commanded heeded commandOf inputOf classOf linkInRange keyOf mayFollow linksTo addressClass inOrder tableSound isIn inserted isFirst movedAmong otherClass noLinkTo movedLinks presentIn reseated eachSeat seatsIn soundSeat soundSeats allNamed isSound checks lentChecks reports isOutside linkChecks served delivered afterTelegram telegramRule afterStep stepRule commandAt commands stripRule someSeat inUse busyFrom wouldPass installRule addRule offStrip shifted raised spliceInRule motorSeen
+unfolding allRight cases right first carried tabulate every distinct there any kept howMany lowestFree reactionOf numbersOf paramsOf allowed defaults within timesInRange inRange fullTime bottom nextPlace endOf target wayTo part told started orderedOff orderedRunning orderedAt ordered motorOff stoppedAt stopped freshOf moved arrived shorter ran waited millisecondAt millisecond milliseconds motorOf active busy report soundWait soundRunning soundMotion sound mud ssud towards aimedBetween aimed followed sapbp acted rulerOf dutyUnder dutyOf ruled flagged commanded heeded commandOf inputOf classOf linkInRange keyOf mayFollow linksTo addressClass inOrder tableSound isIn inserted isFirst movedAmong otherClass noLinkTo movedLinks presentIn reseated eachSeat seatsIn soundSeat soundSeats allNamed isSound checks lentChecks reports isOutside linkChecks served delivered afterTelegram telegramRule afterStep stepRule commandAt commands stripRule someSeat inUse busyFrom wouldPass installRule addRule offStrip shifted raised spliceInRule motorSeen
 cases-right = refl
 
 -- Only the west goes up under its wind alarm; the south, at its new terminal, hears only what is its own.
 pub story-right : right story bare ≡ true
-unfolding right first carried tabulate every distinct there any kept howMany lowestFree reactionOf numbersOf held paramsOf allowed defaults within inRange fullTime bottom nextPlace endOf target wayTo part told started orderedOff orderedRunning orderedAt ordered motorOff stoppedAt stopped freshOf moved arrived shorter ran waited millisecondAt millisecond milliseconds motorOf active busy report soundWait soundRunning soundMotion sound mud ssud towards aimedBetween aimed followed sapbp acted rulerOf dutyUnder dutyOf ruled flagged commanded heeded commandOf inputOf classOf linkInRange keyOf mayFollow linksTo addressClass inOrder tableSound isIn inserted isFirst movedAmong otherClass noLinkTo movedLinks presentIn reseated eachSeat seatsIn soundSeat soundSeats allNamed isSound checks lentChecks reports isOutside linkChecks served delivered afterTelegram telegramRule afterStep stepRule commandAt commands stripRule someSeat inUse busyFrom wouldPass installRule addRule offStrip shifted raised spliceInRule motorSeen
+unfolding right first carried tabulate every distinct there any kept howMany lowestFree reactionOf numbersOf paramsOf allowed defaults within timesInRange inRange fullTime bottom nextPlace endOf target wayTo part told started orderedOff orderedRunning orderedAt ordered motorOff stoppedAt stopped freshOf moved arrived shorter ran waited millisecondAt millisecond milliseconds motorOf active busy report soundWait soundRunning soundMotion sound mud ssud towards aimedBetween aimed followed sapbp acted rulerOf dutyUnder dutyOf ruled flagged commanded heeded commandOf inputOf classOf linkInRange keyOf mayFollow linksTo addressClass inOrder tableSound isIn inserted isFirst movedAmong otherClass noLinkTo movedLinks presentIn reseated eachSeat seatsIn soundSeat soundSeats allNamed isSound checks lentChecks reports isOutside linkChecks served delivered afterTelegram telegramRule afterStep stepRule commandAt commands stripRule someSeat inUse busyFrom wouldPass installRule addRule offStrip shifted raised spliceInRule motorSeen
 story-right = refl

@@ -8,11 +8,11 @@ use lib.ListN.{length, getD}
 use Rattle.laws.specs.Decides.{Decides}
 use Rattle.laws.proofs.Deciding.{le, eq, and, said}
 use Rattle.params.specs.declared.Params.{Params}
-use Rattle.params.specs.Parameters.{SoundParams, within, inRange}
+use Rattle.params.specs.Parameters.{SoundParams, within, timesInRange, inRange}
 use Rattle.params.specs.Numbers.{setSize, paramsOf, InRanges, allowed}
 
 pub params-decide : (p : Params) → Decides (inRange p) (SoundParams p)
-unfolding inRange within
+unfolding inRange timesInRange within
 params-decide p =
     said
     (λ h.

@@ -1,17 +1,17 @@
 -- The numbers of a set and the set that numbers are: there and back nothing is lost.
 -- Assumes nothing.
-use Prim.Native.Nat.{ℕ, zero, suc, _≤_, min}
+use Prim.Native.Nat.{ℕ, zero, suc, _≤_}
 use native.Mathlib.Omega.{arith}
 use mathlib.Core.Path.{_≡_, refl, sym, ap, _∙_}
-use mathlib.Core.Bool.{true}
+use mathlib.Core.Bool.{Bool, true, cond}
 use mathlib.Core.List.{List, [], _∷_}
 use lib.ListN.{length, getD}
 use Rattle.laws.specs.Fills.{tabulate}
 use Rattle.laws.proofs.Fills.{tabulate-list}
 use Rattle.params.specs.declared.Params.{Params}
 use Rattle.params.specs.declared.Reaction.{Reaction}
-use Rattle.params.specs.Parameters.{SoundParams, inRange}
-use Rattle.params.specs.Numbers.{reactionOf, numberOf, setSize, numbersOf, held, paramsOf, InRanges, allowed, rowOf, askedOf}
+use Rattle.params.specs.Parameters.{defaults, inRange}
+use Rattle.params.specs.Numbers.{reactionOf, numberOf, setSize, numbersOf, paramsOf, InRanges, allowed, rowOf, askedOf}
 use Rattle.params.proofs.Ranges.{params-decide, ranges-decide}
 
 reaction-back : (r : Reaction) → reactionOf (numberOf r) ≡ r
@@ -35,17 +35,12 @@ number-most Reaction.Up = omega arith
 number-most Reaction.Down = omega arith
 number-most Reaction.Stop = omega arith
 
--- the numbers of a set in range are that set
-pub asked-back : (p : Params) → inRange p ≡ true → paramsOf (numbersOf p) ≡ p
-unfolding paramsOf numbersOf held
-asked-back p e =
-    let s : SoundParams p = params-decide p .holds e in
-    let mudt : min (p .mudt) 4294967295 ≡ p .mudt = omega (arith, s .mudt-most) in
-    let sst : min (p .sst) 4294967295 ≡ p .sst = omega (arith, s .sst-most) in
-    let rpt : min (p .rpt) 4294967295 ≡ p .rpt = omega (arith, s .rpt-most) in
-    rw (mudt, sst, rpt, reaction-back (p .rwa), reaction-back (p .rra), reaction-back (p .rfa))
+-- the numbers of a set are that set
+pub asked-back : (p : Params) → paramsOf (numbersOf p) ≡ p
+unfolding paramsOf numbersOf
+asked-back p = rw (reaction-back (p .rwa), reaction-back (p .rra), reaction-back (p .rfa))
 
--- and they are accepted
+-- and of a set in range they are accepted
 pub asked-allowed : (p : Params) → inRange p ≡ true → allowed (numbersOf p) ≡ true
 unfolding numbersOf
 asked-allowed p e =
@@ -55,21 +50,21 @@ asked-allowed p e =
       rwa = number-most (p .rwa);
       rra = number-most (p .rra);
       rfa = number-most (p .rfa);
-      params = params-decide (paramsOf (numbersOf p)) .holds (ap inRange (asked-back p e) ∙ e);
+      params = params-decide (paramsOf (numbersOf p)) .holds (ap inRange (asked-back p) ∙ e);
     })
 
 -- numbers that are accepted are those of their set
 pub asked-forth : (ns : List ℕ) → allowed ns ≡ true → numbersOf (paramsOf ns) ≡ ns
-unfolding numbersOf paramsOf held tabulate
+unfolding numbersOf paramsOf tabulate
 asked-forth ns e =
     let r : InRanges ns = ranges-decide ns .holds e in
-    let s : SoundParams (paramsOf ns) = r .params in
-    let mudt : min (getD ns 0 0) 4294967295 ≡ getD ns 0 0 = omega (arith, s .mudt-most) in
-    let sst : min (getD ns 1 0) 4294967295 ≡ getD ns 1 0 = omega (arith, s .sst-most) in
-    let rpt : min (getD ns 2 0) 4294967295 ≡ getD ns 2 0 = omega (arith, s .rpt-most) in
     let whole : tabulate setSize (λ k. getD ns k 0) ≡ ns =
     ap (λ (n : ℕ). tabulate n (λ k. getD ns k 0)) (sym (r .size)) ∙ tabulate-list ns 0 in
-    rw (mudt, sst, rpt, number-back (getD ns 3 0) (r .rwa), number-back (getD ns 4 0) (r .rra), number-back (getD ns 5 0) (r .rfa)) whole
+    rw (number-back (getD ns 3 0) (r .rwa), number-back (getD ns 4 0) (r .rra), number-back (getD ns 5 0) (r .rfa)) whole
+
+-- numbers that are accepted make their set
+pub accepted-set : (ns : List ℕ) (p : Params) → allowed ns ≡ true → p ≡ cond (allowed ns) (paramsOf ns) defaults → p ≡ paramsOf ns
+accepted-set ns p e made = made ∙ ap (λ (b : Bool). cond b (paramsOf ns) defaults) e
 
 -- ---- the numbers by their names
 

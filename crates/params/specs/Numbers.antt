@@ -1,6 +1,6 @@
 -- Document 01, "Parameters of a blind": the numbers of a set in the order of the table, and the set that numbers are.
 -- Assumes nothing.
-use Prim.Native.Nat.{ℕ, _≤_, min}
+use Prim.Native.Nat.{ℕ, _≤_}
 use mathlib.Core.Path.{_≡_}
 use mathlib.Core.Bool.{Bool, cond, _&&_}
 use mathlib.Core.List.{List, [], _∷_}
@@ -29,17 +29,13 @@ setSize = 6
 unfoldable pub numbersOf : Params → List ℕ
 numbersOf p = p .mudt ∷ p .sst ∷ p .rpt ∷ numberOf (p .rwa) ∷ numberOf (p .rra) ∷ numberOf (p .rfa) ∷ []
 
--- A time as a field of 32 binary digits holds it: one that does not fit is the highest there, which is in no range.
-unfoldable pub held : ℕ → ℕ
-held n = min n 4294967295
-
 -- The set that the numbers are.
 unfoldable pub paramsOf : List ℕ → Params
 paramsOf ns =
     record {
-      mudt = held (getD ns 0 0);
-      sst = held (getD ns 1 0);
-      rpt = held (getD ns 2 0);
+      mudt = getD ns 0 0;
+      sst = getD ns 1 0;
+      rpt = getD ns 2 0;
       rwa = reactionOf (getD ns 3 0);
       rra = reactionOf (getD ns 4 0);
       rfa = reactionOf (getD ns 5 0);

@@ -23,10 +23,13 @@ pub record SoundParams (p : Params) : Type 0 where
 unfoldable pub within : ℕ → ℕ → ℕ → Bool
 within least most n = leb least n && leb n most
 
--- The same as a test.
+-- The same as a test, of MUDT, SST and RPT.
+unfoldable pub timesInRange : ℕ → ℕ → ℕ → Bool
+timesInRange mudt sst rpt =
+    within 1000 600000 mudt && (within 1 10000 sst && (leb sst mudt && within 100 10000 rpt))
+
 unfoldable pub inRange : Params → Bool
-inRange p =
-    within 1000 600000 (p .mudt) && (within 1 10000 (p .sst) && (leb (p .sst) (p .mudt) && within 100 10000 (p .rpt)))
+inRange p = timesInRange (p .mudt) (p .sst) (p .rpt)
 
 -- What is read where no set stands.
 abbrev pub noParams : Params

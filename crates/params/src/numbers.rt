@@ -3,15 +3,14 @@ use crate::Asked;
 use crate::Params;
 use crate::Reaction;
 use crate::SET;
+use crate::parameters::times_in_range;
 ghost use mathlib.Core.Path.{_≡_};
+ghost use mathlib.Core.Bool.{cond};
 ghost use Rattle.params.specs.Parameters.{defaults};
-ghost use Rattle.params.specs.Numbers.{reactionOf, held, numbersOf, paramsOf, allowed, rowOf, askedOf};
+ghost use Rattle.params.specs.Numbers.{reactionOf, numbersOf, paramsOf, allowed, rowOf, askedOf};
 
 // The last reaction, stop.
 const LAST_REACTION: u64 = 3;
-
-// The highest number that a parameter's field can hold.
-const WIDEST: u64 = 4_294_967_295;
 
 impl Asked {
     // The numbers in the paper's order.
@@ -47,31 +46,24 @@ impl Asked {
         if LAST_REACTION < self.rfa {
             return false;
         }
-        self.params().in_range()
+        times_in_range(self.mudt, self.sst, self.rpt)
     }
 
-    // The set that the numbers are; a number that no field can hold becomes the highest there, which is in no range.
+    // The set that the numbers are. Numbers that are not in range are no set; whoever asks all the same gets the default.
     pub fn params(self) -> Params
-        ensures { λ r. ⌜ r ≡ paramsOf (rowOf self) ⌝ }
+        ensures { λ r. ⌜ r ≡ cond (allowed (rowOf self)) (paramsOf (rowOf self)) defaults ⌝ }
     {
+        if !self.in_range() {
+            return Params::default_set();
+        }
         Params {
-            mudt: held(self.mudt),
-            sst: held(self.sst),
-            rpt: held(self.rpt),
+            mudt: self.mudt as u32,
+            sst: self.sst as u32,
+            rpt: self.rpt as u32,
             rwa: reaction(self.rwa),
             rra: reaction(self.rra),
             rfa: reaction(self.rfa),
         }
-    }
-}
-
-fn held(number: u64) -> u32
-    ensures { λ r. ⌜ r ≡ held number ⌝ }
-{
-    if number <= WIDEST {
-        number as u32
-    } else {
-        WIDEST as u32
     }
 }
 

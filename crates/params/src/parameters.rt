@@ -3,7 +3,7 @@ use crate::Params;
 use crate::Reaction;
 use crate::SET;
 ghost use mathlib.Core.Path.{_≡_};
-ghost use Rattle.params.specs.Parameters.{defaults, within, inRange};
+ghost use Rattle.params.specs.Parameters.{defaults, within, timesInRange, inRange};
 ghost use Rattle.params.specs.Numbers.{numberOf, numbersOf};
 
 impl Params {
@@ -25,16 +25,7 @@ impl Params {
     pub fn in_range(self) -> bool
         ensures { λ r. ⌜ r ≡ inRange self ⌝ }
     {
-        if !within(1_000, 600_000, self.mudt) {
-            return false;
-        }
-        if !within(1, 10_000, self.sst) {
-            return false;
-        }
-        if self.mudt < self.sst {
-            return false;
-        }
-        within(100, 10_000, self.rpt)
+        times_in_range(self.mudt as u64, self.sst as u64, self.rpt as u64)
     }
 
     // How long the motor rests between opposite motions.
@@ -61,7 +52,23 @@ impl Params {
     }
 }
 
-fn within(least: u32, most: u32, n: u32) -> bool
+// Of numbers of any size, so that each can be outside its range.
+pub(crate) fn times_in_range(mudt: u64, sst: u64, rpt: u64) -> bool
+    ensures { λ r. ⌜ r ≡ timesInRange mudt sst rpt ⌝ }
+{
+    if !within(1_000, 600_000, mudt) {
+        return false;
+    }
+    if !within(1, 10_000, sst) {
+        return false;
+    }
+    if mudt < sst {
+        return false;
+    }
+    within(100, 10_000, rpt)
+}
+
+fn within(least: u64, most: u64, n: u64) -> bool
     ensures { λ r. ⌜ r ≡ within least most n ⌝ }
 {
     if n < least { false } else { n <= most }

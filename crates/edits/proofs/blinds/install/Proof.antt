@@ -26,6 +26,7 @@ use Rattle.seats.specs.Seats.{standsWithin, inUse}
 use Rattle.seats.proofs.Present.{present-at}
 use Rattle.seats.proofs.Walk.{Rest, rest-all, rest-more, rest-hit, met-end}
 use Rattle.params.specs.Numbers.{rowOf}
+use Rattle.params.proofs.Rows.{accepted-set}
 use Rattle.edits.specs.Edits.{installRule}
 use Rattle.edits.proofs.Passed.{beyond, Inside, inside}
 use Rattle.edits.proofs.blinds.install.Statement.{statement}
@@ -101,7 +102,7 @@ returns-5 c =
     let three = at .before in
     let start = three .before .before .before .before .before .before .before in
     let p : Panel = start .args .t1 in
-    let params : c .before .before .params .result ≡ _ = c .before .before .params .ensures in
+    let params : c .before .before .params .result ≡ _ = accepted-set _ _ (low three .fair) (c .before .before .params .ensures) in
     let tag-low : start .args .tag < 64 = low three .tag-low in
     does _ _ _ (past three ∙ passed-by _ 10 [] (sym (met-end _ _ (at .loop .other) false (omega arith) (at .loop .inv .1))) ∙ none-left) refl refl
     (seat-put p (c .with .result) (start .args .tag) (start .args .terminal) (c .before .fresh .result) (c .with .ensures) tag-low (omega (arith, tag-low, terminals-long start)) (omega (arith, tag-low, blinds-long start))

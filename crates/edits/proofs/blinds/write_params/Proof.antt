@@ -17,6 +17,7 @@ use Rattle.panel.specs.Calls.{noCells}
 use Rattle.panel.proofs.Checks.{not-sound, outside-range, own-checks}
 use Rattle.panel.proofs.Rules.{refuses, refuses-with, does}
 use Rattle.params.specs.Numbers.{rowOf, allowed}
+use Rattle.params.proofs.Rows.{accepted-set}
 use Rattle.edits.specs.Edits.{writeRule}
 use Rattle.edits.proofs.Passed.{Writable, writable}
 use Rattle.edits.proofs.Written.{named-told, rewritten-at}
@@ -65,7 +66,7 @@ returns-4 c =
     let ok : Writable (start .args .tag) (modelOf (start .args .t1)) noCells (rowOf (start .args .asked)) = writable _ _ _ _ zero in
     does _ _ _ zero refl refl
     (rewritten-at (start .args .t1) (start .args .tag) (rowOf (start .args .asked)) (c .rewrite .result) (c .before .params .result)
-    (ok .named .there) (omega (arith, ok .low, blinds-long start)) (c .before .params .ensures) (c .rewrite .ensures))
+    (ok .named .there) (omega (arith, ok .low, blinds-long start)) (accepted-set _ _ (ok .fair) (c .before .params .ensures)) (c .rewrite .ensures))
     refl
 
 pub write-params-spec : {M : Type 1} → statement M

@@ -1,7 +1,6 @@
--- `Params::in_range`: the tests that led to a return say which part of `inRange` is false, or that the last decides.
+-- `Params::in_range`: the times of the set are asked for as numbers.
 -- Assumes nothing.
 use borrow.Author.Needs.{needs}
-use borrow.Author.Tests.{le-leb, lt-leb, not-false, not-true}
 use Rattle.params.specs.Parameters.{inRange}
 use Rattle.params.proofs.Params.in_range.Statement.{statement}
 use Rattle.params.proofs.Params.in_range.Tie as tie
@@ -11,10 +10,5 @@ unfolding inRange
 in-range-spec =
     tie.close
     (tie.spec
-    (λ c κs. search needs)
-    (λ c. simp (not-true (c .before .within .result) (c .if1 .taken), ← c .before .within .ensures))
-    (λ c κs. search needs)
-    (λ c. simp (not-true (c .before .within2 .result) (c .if2 .taken), ← c .before .within2 .ensures, not-false (c .before .before .before .within .result) (c .before .before .if1 .left), ← c .before .before .before .within .ensures))
-    (λ c. simp (lt-leb _ _ (c .if3 .taken), not-false (c .before .before .before .within2 .result) (c .before .before .if2 .left), ← c .before .before .before .within2 .ensures, not-false (c .before .before .before .before .before .within .result) (c .before .before .before .before .if1 .left), ← c .before .before .before .before .before .within .ensures))
-    (λ c κs. search needs)
-    (λ c. simp (c .within3 .ensures, le-leb _ _ (c .before .if3 .left), not-false (c .before .before .before .before .within2 .result) (c .before .before .before .if2 .left), ← c .before .before .before .before .within2 .ensures, not-false (c .before .before .before .before .before .before .within .result) (c .before .before .before .before .before .if1 .left), ← c .before .before .before .before .before .before .within .ensures)))
+    (λ c. search needs) (λ c. search needs) (λ c. search needs) (λ c κs. search needs)
+    (λ c. c .times-in-range .ensures))
