@@ -24,7 +24,7 @@ use Rattle.wiring.specs.Wiring.{addRule, removeLinkRule}
 use Rattle.wiring.proofs.Exact.{add-told, remove-link-told}
 use Rattle.splices.specs.Splices.{spliceInRule, spliceOutRule}
 use Rattle.splices.proofs.Exact.{splice-in-told, splice-out-told}
-use Rattle.demands.specs.Calls.{Call, telegram, timeStep, strip, install, removeBlind, writeParams, addLink, removeLink, spliceIn, spliceOut, inventory, ruleOf, does}
+use Rattle.demands.specs.Calls.{Call, telegram, timeStep, strip, install, removeBlind, writeParams, addLink, removeLink, spliceIn, spliceOut, inventory, ruleOf}
 use Rattle.demands.specs.Demand1.{casesOf, Answers}
 
 -- the checks of each call decide its cases
@@ -59,13 +59,13 @@ all-in-table (spliceIn t n) m cells = refl
 all-in-table (spliceOut t n) m cells = refl
 all-in-table inventory m cells = refl
 
--- Demand 1, for every call and any panel contents, sound or not (every panel's tags are below 64).
-pub answers : (call : Call) (m : Model) (cells : Cells) → Tagged m → Answers call m cells
+-- Demand 1, for every call and any panel contents, sound or not
+pub answers : (call : Call) (m : Model) (cells : Cells) → Answers call m cells
 unfolding inTable
-answers call m cells tagged =
+answers call m cells =
     record {
       in-the-table = subst (λ (n : ℕ). n ≤ 12) (sym (answer-is (ruleOf call) m cells)) (leb-true _ 12 (refusal-has inTable (ruleOf call .checks m cells) refl (all-in-table call m cells)));
-      in-its-case = exactly-rule (ruleOf call) m cells (told call m cells tagged);
+      in-its-case = λ tagged. exactly-rule (ruleOf call) m cells (told call m cells tagged);
       done = done (ruleOf call) m cells;
       refused = refused (ruleOf call) m cells;
     }

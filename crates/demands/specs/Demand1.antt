@@ -7,6 +7,7 @@ use mathlib.Core.List.{List}
 use Rattle.answers.specs.Cases.{Case, Exactly}
 use Rattle.answers.specs.Rules.{refusedBy, doneBy}
 use Rattle.panel.specs.Panel.{Model}
+use Rattle.panel.specs.Sound.{Tagged}
 use Rattle.panel.specs.Calls.{Cells}
 use Rattle.bus.specs.Cases.{telegramCases, stepCases}
 use Rattle.readings.specs.Cases.{stripCases, inventoryCases}
@@ -29,9 +30,9 @@ casesOf (spliceIn t n) = inCases t n
 casesOf (spliceOut t n) = outCases t n
 casesOf inventory = inventoryCases
 
--- What a caller may count on, whatever the panel holds.
+-- What a caller may count on, whatever the panel holds. The cases speak of tags, and those of every panel are below 64.
 pub record Answers (call : Call) (m : Model) (cells : Cells) : Type 1 where
   pub in-the-table : does call m cells .answer ≤ 12
-  pub in-its-case : Exactly 0 (casesOf call m cells) (does call m cells .answer)
+  pub in-its-case : Tagged m → Exactly 0 (casesOf call m cells) (does call m cells .answer)
   pub done : does call m cells .answer ≡ 0 → does call m cells ≡ doneBy (ruleOf call) m cells
   pub refused : (does call m cells .answer ≡ 0 → ⊥) → does call m cells ≡ refusedBy (does call m cells .answer) m cells
