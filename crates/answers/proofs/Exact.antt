@@ -1,7 +1,7 @@
 -- Each answer is given exactly in its case: where each test of a list decides the statement of its case, the list answers
 -- exactly as the first case that holds. Assumes nothing.
 use Prim.Native.Nat.{ℕ}
-use mathlib.Core.Path.{_≡_, refl, sym, _∙_, subst}
+use mathlib.Core.Path.{_≡_, refl, sym, subst}
 use mathlib.Core.Bool.{Bool, true, false, cond}
 use mathlib.Core.List.{List, [], _∷_}
 use Rattle.laws.specs.Decides.{Decides}

@@ -16,12 +16,12 @@ use Rattle.blind.specs.declared.Blind.{Blind}
 use Rattle.rules.specs.Rules.{heeded}
 use Rattle.rules.specs.Telegrams.{inputOf}
 use Rattle.link.specs.declared.Link.{Link}
-use Rattle.links.specs.Links.{heldOf}
-use Rattle.links.specs.Sound as ofLinks
+use Rattle.table.specs.Links.{heldOf}
+use Rattle.table.specs.Sound as ofLinks
 use Rattle.link.specs.Link.{nothing}
 use Rattle.link.proofs.Ranges.{range-reads}
-use Rattle.links.proofs.Sound.{sound-decided}
-use Rattle.links.proofs.Stores.{few, many}
+use Rattle.table.proofs.Sound.{sound-decided}
+use Rattle.table.proofs.Stores.{few, many}
 use Rattle.panel.specs.declared.Panel.{Panel}
 use Rattle.panel.specs.Panel.{Seat, Model, nobody, seatsOf, modelOf, reseated, eachSeat}
 use Rattle.panel.specs.Fields.{withBlinds}

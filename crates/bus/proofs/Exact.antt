@@ -4,7 +4,7 @@ use Prim.Native.Nat.{ℕ}
 use Rattle.answers.proofs.Exact.{Told, all-told, told-then, told}
 use Rattle.laws.proofs.Deciding.{lt}
 use Rattle.tags.specs.Tags.{places}
-use Rattle.links.proofs.Sound.{sound-decided}
+use Rattle.table.proofs.Sound.{sound-decided}
 use Rattle.panel.specs.Panel.{Model}
 use Rattle.panel.specs.Sound.{Tagged}
 use Rattle.panel.specs.Calls.{Cells}

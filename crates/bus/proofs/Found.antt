@@ -16,15 +16,14 @@ use Rattle.laws.proofs.Deciding.{eq, lt, and, neither, said}
 use Rattle.link.specs.declared.Link.{Link}
 use Rattle.laws.specs.Kept.{kept}
 use Rattle.kinds.specs.Kinds.{classOf}
-use Rattle.links.specs.Links.{Held, linksTo, addressClass}
+use Rattle.table.specs.Links.{Held, linksTo, noLinkTo, addressClass}
 use Rattle.link.specs.Link.{nothing}
-use Rattle.links.specs.Sound.{isSound}
-use Rattle.links.specs.Edits.{noLinkTo}
+use Rattle.table.specs.Sound.{isSound}
 use Rattle.laws.proofs.Each as each
 use Rattle.laws.proofs.Each.{Each, more, first, rest, each-map, each-both}
 use Rattle.laws.proofs.Kept.{each-kept}
-use Rattle.links.proofs.Sound.{sound-reads}
-use Rattle.links.proofs.Spans.{class-shared}
+use Rattle.table.proofs.Sound.{sound-reads}
+use Rattle.table.proofs.Spans.{class-shared}
 use Rattle.panel.specs.Panel.{Model}
 use Rattle.bus.specs.Cases.{LinkTo, LinkBelow}
 

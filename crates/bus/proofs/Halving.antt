@@ -9,15 +9,15 @@ use mathlib.Core.List.{List, [], _∷_}
 use lib.ListN.{length, getD}
 use lib.Dec.{ltb}
 use borrow.Author.Tests.{ltb-true, ltb-false}
-use Rattle.links.specs.declared.table.Table.{Table}
-use Rattle.links.specs.Links.{rank, heldOf, startOf}
+use Rattle.table.specs.declared.Table.{Table}
+use Rattle.table.specs.Links.{rank, heldOf, startOf}
 use Rattle.link.specs.Link.{nothing}
-use Rattle.links.specs.Sound.{isSound}
+use Rattle.table.specs.Sound.{isSound}
 use Rattle.laws.proofs.Each.{more, each-at, each-map}
-use Rattle.links.proofs.Order.{rank-below, rank-none, rank-bounded}
-use Rattle.links.proofs.Spans.{Up, addresses-up}
-use Rattle.links.proofs.Sound.{sound-reads}
-use Rattle.links.proofs.Stores.{few, many, held-at}
+use Rattle.table.proofs.Ranks.{rank-below, rank-none, rank-bounded}
+use Rattle.table.proofs.Spans.{Up, addresses-up}
+use Rattle.table.proofs.Sound.{sound-reads}
+use Rattle.table.proofs.Stores.{few, many, held-at}
 
 module _ {A : Type 0} (f : A → ℕ) (a : ℕ) (d : A) where
   -- a place below a: those below a reach past it

@@ -26,12 +26,11 @@ use Rattle.link.specs.declared.Link.{Link}
 use Rattle.laws.specs.Kept.{kept}
 use Rattle.laws.proofs.Kept.{kept-swap}
 use Rattle.kinds.specs.Kinds.{classOf}
-use Rattle.links.specs.Links.{linksTo, addressClass, linksOf}
-use Rattle.links.specs.Edits.{noLinkTo}
+use Rattle.table.specs.Links.{linksTo, noLinkTo, linksOf, addressClass}
 use Rattle.laws.proofs.Each.{Each, first}
 use Rattle.laws.proofs.Kept.{each-kept, kept-length}
-use Rattle.links.proofs.Sound.{Fine, sound-reads, sound-decided}
-use Rattle.links.proofs.Spans.{class-shared}
+use Rattle.table.proofs.Sound.{Fine, sound-reads, sound-decided}
+use Rattle.table.proofs.Spans.{class-shared}
 use Rattle.panel.specs.Panel.{Seat, Model, eachSeat}
 use Rattle.panel.specs.Sound.{Sound}
 use Rattle.panel.specs.Calls.{Cells, outside}

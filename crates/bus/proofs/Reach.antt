@@ -12,14 +12,13 @@ use borrow.Author.Tests.{eq-eqb, ne-eqb, lt-ltb, le-ltb, eqb-false}
 use Rattle.answers.specs.Answers.{refusal}
 use Rattle.answers.proofs.Refusals.{refused-by, passed-by, none-left}
 use Rattle.link.specs.declared.Link.{Link}
-use Rattle.links.specs.declared.table.Table.{Table}
+use Rattle.table.specs.declared.Table.{Table}
 use Rattle.kinds.specs.Kinds.{classOf}
-use Rattle.links.specs.Links.{heldOf, linksTo, startOf, addressClass}
+use Rattle.table.specs.Links.{heldOf, linksTo, noLinkTo, startOf, addressClass}
 use Rattle.link.specs.Link.{nothing}
-use Rattle.links.specs.Sound.{isSound}
-use Rattle.links.specs.Edits.{noLinkTo}
-use Rattle.links.proofs.Sound.{Fine, sound-reads}
-use Rattle.links.proofs.Spans.{addresses-up, rank-next, links-found, class-at-start, no-class}
+use Rattle.table.specs.Sound.{isSound}
+use Rattle.table.proofs.Sound.{Fine, sound-reads}
+use Rattle.table.proofs.Spans.{addresses-up, rank-next, links-found, class-at-start, no-class}
 use Rattle.panel.specs.declared.Panel.{Panel}
 use Rattle.panel.specs.Panel.{Model, modelOf}
 use Rattle.panel.specs.Calls.{outside}

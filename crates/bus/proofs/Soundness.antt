@@ -7,7 +7,7 @@ use lib.Dec.{eqb}
 use Rattle.answers.specs.Answers.{refusal}
 use Rattle.laws.proofs.Choices.{cond-has}
 use Rattle.tags.specs.Tags.{places}
-use Rattle.links.specs.Links.{linksTo}
+use Rattle.table.specs.Links.{linksTo}
 use Rattle.blind.specs.Millisecond.{milliseconds}
 use Rattle.sound_blind.specs.Sound as ofBlind
 use Rattle.rules.specs.Rules.{heeded}

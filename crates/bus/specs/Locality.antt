@@ -11,7 +11,7 @@ use Rattle.outputs.specs.Reports.{report}
 use Rattle.rules.specs.Rules.{heeded}
 use Rattle.rules.specs.Telegrams.{inputOf}
 use Rattle.link.specs.declared.Link.{Link}
-use Rattle.links.specs.Links.{linksTo, linksOf}
+use Rattle.table.specs.Links.{linksTo, linksOf}
 use Rattle.panel.specs.Panel.{Seat, Model}
 use Rattle.panel.specs.Calls.{Cells}
 use Rattle.outputs.specs.Reports.{noReport}

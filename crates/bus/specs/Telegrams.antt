@@ -12,8 +12,7 @@ use Rattle.rules.specs.Rules.{heeded}
 use Rattle.rules.specs.Telegrams.{inputOf}
 use Rattle.link.specs.declared.Link.{Link}
 use Rattle.link.specs.Link.{isAddress}
-use Rattle.links.specs.Links.{linksTo, startOf, addressClass}
-use Rattle.links.specs.Edits.{noLinkTo}
+use Rattle.table.specs.Links.{linksTo, noLinkTo, startOf, addressClass}
 use Rattle.panel.specs.Panel.{Seat, Model, eachSeat}
 use Rattle.panel.specs.Calls.{row, lentChecks, CallRule}
 use Rattle.bus.specs.Seats.{onBlind}

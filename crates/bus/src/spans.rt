@@ -1,14 +1,14 @@
 // Document 01, "Links and telegrams": where the links of an address stand in a sound table. The links ascend by
 // address, so those of one address stand together, and each end is found by halving.
 use link::Link;
-use links::table::Table;
+use table::Table;
 ghost use Prim.Native.Nat.{_≤_};
 ghost use mathlib.Core.Path.{_≡_};
 ghost use mathlib.Core.Bool.{true};
 ghost use lib.Dec.{ltb};
 ghost use Rattle.link.specs.Link.{lastAddress};
-ghost use Rattle.links.specs.Links.{heldOf, startOf};
-ghost use Rattle.links.specs.Sound.{isSound};
+ghost use Rattle.table.specs.Links.{heldOf, startOf};
+ghost use Rattle.table.specs.Sound.{isSound};
 ghost use Rattle.bus.specs.Telegrams.{Together};
 
 // Where the links of an address start, and how many they are.

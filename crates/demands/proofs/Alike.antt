@@ -7,7 +7,7 @@ use mathlib.Core.Option.{some, Option·map}
 use Rattle.answers.proofs.Rules.{leaves-has}
 use Rattle.blind.specs.declared.Blind.{Blind}
 use Rattle.link.specs.declared.Link.{Link}
-use Rattle.links.specs.Links.{linksTo, linksOf}
+use Rattle.table.specs.Links.{linksTo, linksOf}
 use Rattle.panel.specs.Panel.{Seat, Model}
 use Rattle.panel.specs.Sound.{Fine}
 use Rattle.panel.specs.Calls.{Cells}

@@ -23,10 +23,10 @@ use Rattle.rules.specs.Telegrams.{commandOf, inputOf}
 use Rattle.kinds.specs.Kinds.{classOf}
 use Rattle.link.specs.Link.{keyOf, mayFollow}
 use Rattle.link.specs.Link.{inRange as linkInRange}
-use Rattle.links.specs.Links.{linksTo, addressClass}
-use Rattle.links.specs.Sound.{inOrder}
-use Rattle.links.specs.Sound.{isSound as tableSound}
-use Rattle.links.specs.Edits.{isIn, inserted, isFirst, movedAmong, otherClass, noLinkTo}
+use Rattle.table.specs.Links.{linksTo, noLinkTo, addressClass}
+use Rattle.table.specs.Sound.{inOrder}
+use Rattle.table.specs.Sound.{isSound as tableSound}
+use Rattle.links.specs.Edits.{isIn, inserted, isFirst, movedAmong, otherClass}
 use Rattle.links.specs.Edits.{moved as movedLinks}
 use Rattle.panel.specs.Panel.{presentIn, reseated, eachSeat}
 use Rattle.panel.specs.Sound.{seatsIn, soundSeat, soundSeats, allNamed, isSound}

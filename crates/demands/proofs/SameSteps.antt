@@ -19,7 +19,7 @@ use Rattle.blind.specs.declared.Blind.{Blind}
 use Rattle.blind.specs.Millisecond.{milliseconds}
 use Rattle.outputs.specs.Reports.{report}
 use Rattle.link.specs.declared.Link.{Link}
-use Rattle.links.specs.Links.{linksTo}
+use Rattle.table.specs.Links.{linksTo}
 use Rattle.panel.specs.Panel.{Model}
 use Rattle.panel.specs.Sound.{Sound}
 use Rattle.panel.specs.Calls.{Cells, lentChecks}

@@ -3,7 +3,7 @@
 use Prim.Native.Nat.{ℕ}
 use mathlib.Core.Path.{_≡_, sym, ap, _∙_, subst}
 use lib.ListN.{length}
-use Rattle.links.specs.Links.{linksTo}
+use Rattle.table.specs.Links.{linksTo}
 use mathlib.Core.Bool.{Bool, true, false, not, _||_, true≢false}
 use lib.Dec.{eqb}
 use borrow.Author.Tests.{eq-eqb}

@@ -12,12 +12,12 @@ use Rattle.answers.proofs.Refusals.{passed-by, none-left, answers}
 use Rattle.conduct.proofs.SoundMotions.{fresh-sound}
 use Rattle.conduct.proofs.SoundCourses.{rewritten-sound}
 use Rattle.laws.specs.Kept.{kept}
-use Rattle.links.specs.Links.{holding}
+use Rattle.table.specs.Links.{holding}
 use Rattle.link.specs.Link.{nothing}
-use Rattle.links.specs.Sound as ofLinks
+use Rattle.table.specs.Sound as ofLinks
 use Rattle.links.specs.Edits.{dropped, tagLinks, tagRemoved, stays}
 use Rattle.laws.proofs.Each.{Each, none, more, each-at}
-use Rattle.links.proofs.Sound.{sound-decided}
+use Rattle.table.proofs.Sound.{sound-decided}
 use Rattle.links.proofs.Leaves.{tag-leaves}
 use Rattle.links.proofs.Untouched.{each-dropped}
 use Rattle.panel.specs.Panel.{Seat, Model, reseated, relinked}

@@ -16,9 +16,9 @@ use Rattle.outputs.specs.Reports.{busy}
 use Rattle.rules.specs.Edits.{rewritten}
 use Rattle.tags.specs.declared.Tags.{Tags}
 use Rattle.tags.specs.Tags.{tagsOf, taken}
-use Rattle.links.specs.declared.table_edits.Edited.{Edited}
-use Rattle.links.specs.Links.{Held, heldOf, holding}
-use Rattle.links.specs.Sound as ofLinks
+use Rattle.links.specs.declared.Edited.{Edited}
+use Rattle.table.specs.Links.{Held, heldOf, holding}
+use Rattle.table.specs.Sound as ofLinks
 use Rattle.links.specs.Edits.{tagMoved, tagLinks, tagRemoved, editedOf}
 use Rattle.panel.specs.declared.Panel.{Panel}
 use Rattle.panel.specs.Panel.{Seat, Model, nobody, placeOf, seatsOf, modelOf, isThere, presentIn, reseated, relinked}

@@ -11,7 +11,7 @@ use Rattle.params.specs.declared.Params.{Params}
 use Rattle.blind.specs.Orders.{freshOf}
 use Rattle.rules.specs.Edits.{rewritten}
 use Rattle.tags.specs.Tags.{places}
-use Rattle.links.specs.Links.{holding}
+use Rattle.table.specs.Links.{holding}
 use Rattle.links.specs.Edits.{tagMoved, tagLinks}
 use Rattle.panel.specs.Panel.{Seat, Model, presentIn, reseated, relinked}
 use Rattle.panel.specs.Strip.{terminals}

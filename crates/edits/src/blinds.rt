@@ -8,6 +8,7 @@ use answers::NOT_SOUND;
 use answers::OUT_OF_RANGE;
 use answers::TERMINAL_IN_USE;
 use blind::Blind;
+use links::remove_tag;
 use panel::Panel;
 use panel::calls::Answered;
 use panel::soundness::all_named;
@@ -89,7 +90,7 @@ pub fn remove_blind(mut panel: Panel, tag: u64) -> Answered
     }
     let present = panel.present;
     let table = panel.table;
-    let edited = table.remove_tag(tag);
+    let edited = remove_tag(table, tag);
     let sound = (edited.answer != NOT_SOUND) & all_named(present, table);
     if !sound {
         return Answered {

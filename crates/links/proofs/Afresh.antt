@@ -10,16 +10,17 @@ use lib.Seq.{append-snoc}
 use Rattle.answers.specs.Answers.{Outcome}
 use Rattle.link.specs.declared.Link.{Link}
 use Rattle.link.specs.Link.{keyOf}
-use Rattle.links.specs.Links.{Held, holding}
-use Rattle.links.specs.Sound.{most, isSound}
+use Rattle.table.specs.Links.{Held, holding}
+use Rattle.table.specs.Sound.{most, isSound}
 use Rattle.links.specs.Edits.{isIn, inserted, moved, addLinks, added, removeLinks, removed, tagLinks, tagRemoved}
 use Rattle.links.specs.Afresh.{addedAll, AllAccepted, Afresh}
 use Rattle.laws.proofs.Each.{Each, first, rest, Pairs, each-map, each-right, each-perm, pairs-before, pairs-both, pairs-map, pairs-perm, pairs-right}
-use Rattle.links.proofs.Order.{Asc, is-in-none, inserted-perm, inserted-length, inserted-asc, inserted-swap, inserted-last}
+use Rattle.table.proofs.Ranks.{Asc}
+use Rattle.links.proofs.Order.{is-in-none, inserted-perm, inserted-length, inserted-asc, inserted-swap, inserted-last}
 use Rattle.link.proofs.Ranges.{InRange, range-holds}
-use Rattle.links.proofs.Sound.{Fine, sound-reads, sound-holds}
+use Rattle.table.proofs.Sound.{Fine, sound-reads, sound-holds}
 use Rattle.link.proofs.Neighbours.{Agree}
-use Rattle.links.proofs.Spans.{no-other-class}
+use Rattle.links.proofs.Classes.{no-other-class}
 use Rattle.links.proofs.Calls.{judged-done, added-done}
 use Rattle.links.proofs.Leaves.{add-leaves, remove-leaves, tag-leaves}
 

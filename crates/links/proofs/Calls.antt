@@ -9,9 +9,9 @@ use borrow.Author.Tests.{le-leb, lt-leb, leb-false, not-false}
 use Rattle.answers.specs.Answers.{Check, refusal}
 use Rattle.answers.proofs.Refusals.{refused-by, passed-by, all-passed, none-left, done, refused, refused-as}
 use Rattle.link.specs.declared.Link.{Link}
-use Rattle.links.specs.Links.{Held, holding}
+use Rattle.table.specs.Links.{Held, holding}
 use Rattle.link.specs.Link.{keyOf, inRange}
-use Rattle.links.specs.Sound.{most, isSound}
+use Rattle.table.specs.Sound.{most, isSound}
 use Rattle.links.specs.Edits.{isIn, otherClass, unsound, addLinks, addMoved, addChecks, added, removeLinks, removeMoved, removed, tagLinks, tagMoved, tagRemoved}
 
 module _ (h : Held) where

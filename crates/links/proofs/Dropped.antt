@@ -11,15 +11,15 @@ use lib.Seq.{length-take-le, take-set-le, take-suc-set, append-snoc, drop-cons}
 use lib.Dec.{ltb, leb·suc-suc}
 use borrow.Author.Tests.{lt-ltb}
 use Rattle.link.specs.declared.Link.{Link}
-use Rattle.links.specs.declared.table.Table.{Table}
+use Rattle.table.specs.declared.Table.{Table}
 use Rattle.laws.specs.Kept.{kept}
 use Rattle.link.specs.Link.{keyOf, nothing}
-use Rattle.links.specs.Links.{Held, heldOf, holding}
-use Rattle.links.specs.Sound.{isSound}
+use Rattle.table.specs.Links.{Held, heldOf, holding}
+use Rattle.table.specs.Sound.{isSound}
 use Rattle.links.specs.Edits.{stays, dropped, tagMoved, tagLinks, editedOf}
 use Rattle.links.proofs.Places.{shifted, moved-kept}
-use Rattle.links.proofs.Sound.{sound-reads}
-use Rattle.links.proofs.Stores.{few, many, holds-list, held-at}
+use Rattle.table.proofs.Sound.{sound-reads}
+use Rattle.table.proofs.Stores.{few, many, holds-list, held-at}
 
 module _ {A : Type 0} (p : A → Bool) (ls : List A) (d : A) (i : ℕ) (here : i < length ls) where
   next-kept : kept p (drop i ls) ≡ cond (p (getD ls i d)) (getD ls i d ∷ kept p (drop (i + 1) ls)) (kept p (drop (i + 1) ls))

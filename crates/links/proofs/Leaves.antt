@@ -12,16 +12,19 @@ use Rattle.answers.proofs.Refusals.{all-passed, answers}
 use Rattle.link.specs.declared.Link.{Link}
 use Rattle.laws.specs.Kept.{kept}
 use Rattle.link.specs.Link.{keyOf, nothing}
-use Rattle.links.specs.Links.{rank, Held, holding}
-use Rattle.links.specs.Sound.{most, isSound}
+use Rattle.table.specs.Links.{rank, Held, holding}
+use Rattle.table.specs.Sound.{most, isSound}
 use Rattle.links.specs.Edits.{isIn, inserted, others, deleted, stays, dropped, unsound, addLinks, addMoved, addChecks, added, removeOwn, removeLinks, removeMoved, removed, tagLinks, tagRemoved}
-use Rattle.links.proofs.Order.{Asc, rank-bounded, in-found, inserted-at, inserted-length, deleted-at}
+use Rattle.table.proofs.Ranks.{Asc, rank-bounded}
+use Rattle.links.proofs.Order.{in-found, inserted-at, inserted-perm, inserted-asc, inserted-length, deleted-at}
 use Rattle.links.proofs.Places.{moved-inserted, moved-deleted}
-use Rattle.links.proofs.Sound.{Fine, sound-reads, sound-holds, fine-kept, fine-inserted}
+use Rattle.table.proofs.Sound.{Fine, sound-reads, sound-holds}
 use Rattle.links.proofs.Calls.{Accepted, accepted, added-done, removed-done, tag-done}
-use Rattle.link.proofs.Ranges.{range-reads}
-use Rattle.links.proofs.Spans.{agrees-all}
-use Rattle.laws.proofs.Kept.{kept-length}
+use Rattle.link.proofs.Ranges.{InRange, range-reads}
+use Rattle.link.proofs.Neighbours.{Agree}
+use Rattle.links.proofs.Classes.{agrees-all}
+use Rattle.laws.proofs.Each.{Each, more, each-perm, pairs-perm}
+use Rattle.laws.proofs.Kept.{each-kept, pairs-kept, kept-length}
 
 -- ---- from the search to the outcome
 
@@ -60,6 +63,27 @@ module _ (h : Held) (l : Link) (sound : isSound h ≡ true) (full : length (h .l
         ap₂ (λ (n : ℕ) (g : Held). record { answer = 0; count = n; leaves = g }) many links ∙ sym (removed-done h l sound there)
 
 -- ---- an accepted edit leaves a sound table, with the list that the definitions say
+
+-- some links of a list that is fine
+pub fine-kept : (p : Link → Bool) (ls : List Link) → Fine ls → Fine (kept p ls)
+fine-kept p ls f =
+    record {
+      ranged = each-kept p ls (f .ranged);
+      ascends = pairs-kept (λ x y. keyOf x < keyOf y) p ls (f .ascends);
+      agrees = pairs-kept Agree p ls (f .agrees);
+    }
+
+agree-back : (a b : Link) → Agree a b → Agree b a
+agree-back a b agree same = sym (agree (sym same))
+
+-- a new link in range, that is not there and agrees with those of its address
+pub fine-inserted : (l : Link) (ls : List Link) → Fine ls → InRange l → isIn keyOf l ls ≡ false → Each (Agree l) ls → Fine (inserted keyOf l ls)
+fine-inserted l ls f r new agree =
+    record {
+      ranged = each-perm (inserted-perm keyOf l ls) (more r (f .ranged));
+      ascends = inserted-asc keyOf l ls (f .ascends) new;
+      agrees = pairs-perm Agree agree-back (inserted-perm keyOf l ls) (agree, f .agrees);
+    }
 
 -- the links that are left are those that pass a test
 deleted-kept : {A : Type 0} (key : A → ℕ) (a : A) (xs : List A) → deleted key a xs ≡ kept (others key a) xs

@@ -1,9 +1,7 @@
 pub mod Order
 pub mod Places
-pub mod Sound
-pub mod Misfits
-pub mod Spans
-pub mod Stores
+pub mod Classes
+pub mod Shifts
 pub mod Calls
 pub mod Dropped
 pub mod Leaves

@@ -1,70 +1,22 @@
 -- Lists that ascend by a key: how many elements stand below a key says where one is, where a new one goes, and what a removal leaves.
 -- All by recursion on the list, with a case on the first element. Assumes nothing.
-use Prim.Native.Nat.{ℕ, suc, _+_, _≤_, _<_}
+use Prim.Native.Nat.{ℕ, suc, _≤_, _<_}
 use native.Mathlib.Omega.{arith}
 use native.Mathlib.Decide.{decLt}
-use native.Mathlib.Numerals.{add-one}
 use mathlib.Core.Path.{_≡_, refl, sym, ap, _∙_, subst}
 use mathlib.Core.Bool.{Bool, true, false, cond, not, _&&_, _||_, true≢false, and-eq-true-iff}
 use mathlib.Core.List.{List, [], _∷_, _++_, List·Permᴰ, List·Permᴰ·cons, List·Permᴰ·swap, List·Permᴰ·trans, Permᴰ·refl}
 use lib.ListN.{length, getD, take, drop}
-use lib.Seq.{drop-cons}
 use lib.Dec.{eqb, ltb, leb·suc-suc}
 use borrow.Author.Tests.{lt-ltb, le-ltb, ltb-true, eq-eqb, ne-eqb, eqb-true, eqb-false}
 use Rattle.laws.specs.Kept.{kept}
-use Rattle.links.specs.Links.{rank}
+use Rattle.table.specs.Links.{rank}
 use Rattle.links.specs.Edits.{isIn, inserted, others, deleted}
-use Rattle.laws.proofs.Each.{Each, none, more, first, rest, Pairs, pairs-drop, each-map, each-perm}
-use Rattle.laws.proofs.Kept.{kept-yes, kept-not, kept-all, kept-none, kept-length}
-
--- each element is below all after it
-abbrev pub Asc : {A : Type 0} → (A → ℕ) → List A → Type 0
-Asc key = Pairs (λ x y. key x < key y)
+use Rattle.laws.proofs.Each.{Each, none, more, first, rest, each-map, each-perm}
+use Rattle.laws.proofs.Kept.{kept-yes, kept-not, kept-all}
+use Rattle.table.proofs.Ranks.{Asc, rank-below, rank-none, rank-first}
 
 module _ {A : Type 0} (key : A → ℕ) where
-  -- what stands after an element is above whatever the element is not below
-  pub above-all : (k : ℕ) (x : A) (xs : List A) → Asc key (x ∷ xs) → k ≤ key x → Each (λ y. k ≤ key y) (x ∷ xs)
-  above-all k x xs a h = more h (each-map (λ y i. omega arith) (a .0))
-
-  -- ---- how many stand below a key
-
-  pub rank-below : (k : ℕ) (x : A) (xs : List A) → key x < k → rank key k (x ∷ xs) ≡ suc (rank key k xs)
-  unfolding rank
-  rank-below k x xs h = ap length (kept-yes (λ y. ltb (key y) k) x xs (lt-ltb (key x) k h))
-
-  pub rank-none : (k : ℕ) (xs : List A) → Each (λ x. k ≤ key x) xs → rank key k xs ≡ 0
-  unfolding rank
-  rank-none k xs e = ap length (kept-none (λ y. ltb (key y) k) xs (each-map (λ x h. le-ltb (key x) k h) e))
-
-  pub rank-first : (k : ℕ) (x : A) (xs : List A) → Asc key (x ∷ xs) → k ≤ key x → rank key k (x ∷ xs) ≡ 0
-  rank-first k x xs a h = rank-none k (x ∷ xs) (above-all k x xs a h)
-
-  pub rank-bounded : (k : ℕ) (xs : List A) → rank key k xs ≤ length xs
-  unfolding rank
-  rank-bounded k xs = kept-length (λ y. ltb (key y) k) xs
-
-  -- a walk from the front: the elements passed, and those below the key in what is left, are all below the key
-  pub rank-more : (k : ℕ) (xs : List A) (d : A) (i r : ℕ) → i < length xs → key (getD xs i d) < k
-      → i + rank key k (drop i xs) ≡ r → i + 1 + rank key k (drop (i + 1) xs) ≡ r
-  rank-more k xs d i r h below e =
-      let one : rank key k (drop i xs) ≡ suc (rank key k (drop (i + 1) xs)) =
-      ap (rank key k) (drop-cons xs i d h) ∙ rank-below k (getD xs i d) (drop (suc i) xs) below
-      ∙ ap (λ (n : ℕ). suc (rank key k (drop n xs))) (sym (add-one i)) in
-      omega arith
-
-  pub rank-stop : (k : ℕ) (xs : List A) (d : A) (i r : ℕ) → Asc key xs → i < length xs → k ≤ key (getD xs i d)
-      → i + rank key k (drop i xs) ≡ r → i ≡ r
-  rank-stop k xs d i r a h above e =
-      let zeroes : rank key k (drop i xs) ≡ 0 =
-      ap (rank key k) (drop-cons xs i d h)
-      ∙ rank-first k (getD xs i d) (drop (suc i) xs) (subst (Asc key) (drop-cons xs i d h) (pairs-drop (λ x y. key x < key y) i xs a)) above in
-      omega arith
-
-  pub rank-end : (k : ℕ) (xs : List A) (i r : ℕ) → length xs ≤ i → i + rank key k (drop i xs) ≡ r → i ≡ r
-  rank-end k xs i r h e =
-      let zeroes : rank key k (drop i xs) ≡ 0 = ap (rank key k) (lib.ListN.drop-of-length-le xs h) ∙ rank-none k [] none in
-      omega arith
-
   -- ---- whether an element is there
 
   pub is-in-none : (a : A) (xs : List A) → Each (λ x. key x ≡ key a → ⊥) xs → isIn key a xs ≡ false
@@ -86,7 +38,7 @@ module _ {A : Type 0} (key : A → ℕ) where
   pub is-in-at : (a : A) (xs : List A) (d : A) → Asc key xs
       → isIn key a xs ≡ ltb (rank key (key a) xs) (length xs) && eqb (key (getD xs (rank key (key a) xs) d)) (key a)
   unfolding isIn
-  is-in-at a [] d asc = rw (rank-none (key a) [] none)
+  is-in-at a [] d asc = rw (rank-none key (key a) [] none)
   is-in-at a (x ∷ xs) d asc = go (decLt (key x) (key a)) (is-in-at a xs d (asc .1))
     where
       low : key x < key a → eqb (key x) (key a) ≡ false
@@ -99,8 +51,8 @@ module _ {A : Type 0} (key : A → ℕ) where
       go : Dec (key x < key a) → isIn key a xs ≡ ltb (rank key (key a) xs) (length xs) && eqb (key (getD xs (rank key (key a) xs) d)) (key a)
           → eqb (key x) (key a) || isIn key a xs
           ≡ ltb (rank key (key a) (x ∷ xs)) (suc (length xs)) && eqb (key (getD (x ∷ xs) (rank key (key a) (x ∷ xs)) d)) (key a)
-      go (yes h) ih = rw (low h, rank-below (key a) x xs h, leb·suc-suc (suc (rank key (key a) xs)) (length xs)) ih
-      go (no h) ih = rw (rank-first (key a) x xs asc (omega arith), lt-ltb 0 (suc (length xs)) (omega arith)) (high h (eqb (key x) (key a)) refl)
+      go (yes h) ih = rw (low h, rank-below key (key a) x xs h, leb·suc-suc (suc (rank key (key a) xs)) (length xs)) ih
+      go (no h) ih = rw (rank-first key (key a) x xs asc (omega arith), lt-ltb 0 (suc (length xs)) (omega arith)) (high h (eqb (key x) (key a)) refl)
 
   -- where it is there, it stands after all that are below it
   pub in-found : (a : A) (xs : List A) (d : A) → Asc key xs → isIn key a xs ≡ true → (rank key (key a) xs < length xs) × (key (getD xs (rank key (key a) xs) d) ≡ key a)
@@ -133,13 +85,13 @@ module _ {A : Type 0} (key : A → ℕ) where
   pub inserted-at : (a : A) (xs : List A) → Asc key xs
       → inserted key a xs ≡ take (rank key (key a) xs) xs ++ a ∷ drop (rank key (key a) xs) xs
   unfolding inserted
-  inserted-at a [] asc = rw (rank-none (key a) [] none)
+  inserted-at a [] asc = rw (rank-none key (key a) [] none)
   inserted-at a (x ∷ xs) asc = go (decLt (key x) (key a)) (inserted-at a xs (asc .1))
     where
       go : Dec (key x < key a) → inserted key a xs ≡ take (rank key (key a) xs) xs ++ a ∷ drop (rank key (key a) xs) xs
           → inserted key a (x ∷ xs) ≡ take (rank key (key a) (x ∷ xs)) (x ∷ xs) ++ a ∷ drop (rank key (key a) (x ∷ xs)) (x ∷ xs)
-      go (yes h) ih = rw (inserted-below a x xs h, rank-below (key a) x xs h) (ap (λ (l : List A). x ∷ l) ih)
-      go (no h) ih = rw (inserted-above a x xs (omega arith), rank-first (key a) x xs asc (omega arith))
+      go (yes h) ih = rw (inserted-below a x xs h, rank-below key (key a) x xs h) (ap (λ (l : List A). x ∷ l) ih)
+      go (no h) ih = rw (inserted-above a x xs (omega arith), rank-first key (key a) x xs asc (omega arith))
 
   -- the elements are those that were there, and the new one
   pub inserted-perm : (a : A) (xs : List A) → List·Permᴰ (a ∷ xs) (inserted key a xs)
@@ -226,7 +178,7 @@ module _ {A : Type 0} (key : A → ℕ) where
           → deleted key a xs ≡ take (rank key (key a) xs) xs ++ drop (suc (rank key (key a) xs)) xs)
           → rank key (key a) (x ∷ xs) < suc (length xs) → key (getD (x ∷ xs) (rank key (key a) (x ∷ xs)) d) ≡ key a
           → kept (others key a) (x ∷ xs) ≡ take (rank key (key a) (x ∷ xs)) (x ∷ xs) ++ drop (suc (rank key (key a) (x ∷ xs))) (x ∷ xs)
-      go (yes i) ih = rw (rank-below (key a) x xs i, kept-yes (others key a) x xs (others-pass a x (λ f. omega arith))) (λ h′ e′. ap (λ (l : List A). x ∷ l) (ih (omega arith) e′))
+      go (yes i) ih = rw (rank-below key (key a) x xs i, kept-yes (others key a) x xs (others-pass a x (λ f. omega arith))) (λ h′ e′. ap (λ (l : List A). x ∷ l) (ih (omega arith) e′))
       go (no i) ih =
-          rw (rank-first (key a) x xs asc (omega arith))
+          rw (rank-first key (key a) x xs asc (omega arith))
           (λ h′ e′. kept-not (others key a) x xs (ap not (eq-eqb (key x) (key a) e′)) ∙ kept-all (others key a) xs (each-map (λ y j. others-pass a y (λ f. omega arith)) (asc .0)))

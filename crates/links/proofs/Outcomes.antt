@@ -2,8 +2,8 @@
 use mathlib.Core.Path.{_≡_, ap}
 use Rattle.laws.proofs.Outcomes.{one-answer}
 use Rattle.answers.specs.Answers.{Outcome}
-use Rattle.links.specs.declared.table_edits.Edited.{Edited}
-use Rattle.links.specs.Links.{Held, heldOf}
+use Rattle.links.specs.declared.Edited.{Edited}
+use Rattle.table.specs.Links.{Held, heldOf}
 use Rattle.links.specs.Edits.{editedOf}
 
 -- the edits: the answer, the count and what the table holds

@@ -10,11 +10,12 @@ use lib.ListN.{length, getD}
 use lib.Dec.{eqb}
 use borrow.Author.Tests.{eq-eqb, ne-eqb}
 use Rattle.laws.specs.Kept.{kept}
-use Rattle.links.specs.Links.{rank}
+use Rattle.table.specs.Links.{rank}
 use Rattle.links.specs.Edits.{isIn, inserted, deleted, isFirst, movedAmong, moved, others}
 use Rattle.laws.proofs.Each.{Each, none, more, first, rest, each-map, each-both, each-perm}
 use Rattle.laws.proofs.Kept.{each-kept}
-use Rattle.links.proofs.Order.{Asc, rank-below, rank-none, rank-first, is-in-none, not-in, inserted-below, inserted-above, inserted-perm, others-pass}
+use Rattle.table.proofs.Ranks.{Asc, rank-below, rank-none, rank-first}
+use Rattle.links.proofs.Order.{is-in-none, not-in, inserted-below, inserted-above, inserted-perm, others-pass}
 
 -- of a walk that keeps what passes a test: how many pass once one has not passed (`gone`)
 unfoldable pub shifted : {A : Type 0} → (A → Bool) → Bool → List A → ℕ

@@ -9,7 +9,7 @@ use borrow.Author.Tests.{eqb-true, ne-eqb}
 use Rattle.link.specs.declared.Link.{Link}
 use Rattle.laws.specs.Kept.{kept}
 use Rattle.link.specs.Link.{keyOf}
-use Rattle.links.specs.Links.{linksOf}
+use Rattle.table.specs.Links.{linksOf}
 use Rattle.links.specs.Edits.{inserted, deleted, dropped, others, stays}
 use Rattle.laws.proofs.Each.{Each, more, first, rest, each-perm}
 use Rattle.laws.proofs.Kept.{each-kept, kept-yes, kept-not, kept-kept}

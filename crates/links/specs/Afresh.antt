@@ -3,7 +3,7 @@
 use mathlib.Core.Path.{_≡_}
 use mathlib.Core.List.{List, [], _∷_}
 use Rattle.link.specs.declared.Link.{Link}
-use Rattle.links.specs.Links.{Held, holding}
+use Rattle.table.specs.Links.{Held, holding}
 use Rattle.links.specs.Edits.{added}
 
 -- Links added one after the other, by the call.

@@ -4,16 +4,15 @@
 use Prim.Native.Nat.{ℕ, _+_}
 use mathlib.Core.Bool.{Bool, false, cond, not, _&&_, _||_}
 use mathlib.Core.List.{List, [], _∷_, tail}
-use lib.ListN.{length}
 use lib.Dec.{eqb, ltb, leb}
 use Rattle.laws.specs.Kept.{kept}
 use Rattle.answers.specs.Answers.{Check, refusal, Outcome, answered}
 use Rattle.kinds.specs.Kinds.{classOf}
 use Rattle.link.specs.declared.Link.{Link}
 use Rattle.link.specs.Link.{inRange, keyOf}
-use Rattle.links.specs.declared.table_edits.Edited.{Edited}
-use Rattle.links.specs.Links.{Held, heldOf, holding, linksTo, addressClass}
-use Rattle.links.specs.Sound.{isSound, most}
+use Rattle.links.specs.declared.Edited.{Edited}
+use Rattle.table.specs.Links.{Held, heldOf, holding, addressClass}
+use Rattle.table.specs.Sound.{isSound, most}
 
 module _ {A : Type 0} (key : A → ℕ) where
   -- Whether an element stands in a list.
@@ -60,10 +59,6 @@ dropped tag = kept (stays tag)
 unfoldable pub otherClass : Link → List Link → Bool
 otherClass l ls =
     not (eqb (addressClass (l .address) ls) 0) && not (eqb (addressClass (l .address) ls) (classOf (l .kind)))
-
--- "No link for this address".
-unfoldable pub noLinkTo : ℕ → List Link → Bool
-noLinkTo address ls = eqb (length (linksTo address ls)) 0
 
 -- Every edit first refuses a table that is not sound.
 abbrev pub unsound : Held → Check

@@ -1,4 +1,2 @@
-pub mod Links
-pub mod Sound
 pub mod Edits
 pub mod Afresh

@@ -1,5 +1,204 @@
-// Document 01, "Links and telegrams" and the edits of the table: up to 512 links, ascending by address, tag and kind.
-// Whatever a table holds, every call answers: one that is not sound is refused by 12 and handed back as it was.
+// Document 01, "Edits": add a link to a table, remove a link, remove all links of a tag. Each answers how many surviving
+// links stand at another place than before; a refused edit hands the table back as it was. Whatever a table holds, every
+// call answers: one that is not sound is refused by 12.
 
-pub mod table;
-pub mod table_edits;
+pub mod search;
+
+ghost use Prim.Native.Nat.{_≤_, _<_, suc};
+ghost use mathlib.Core.Path.{_≡_};
+ghost use mathlib.Core.Bool.{true, cond};
+ghost use mathlib.Core.List.{_∷_, _++_};
+ghost use lib.Dec.{ltb};
+ghost use lib.ListN.{take, drop};
+ghost use Rattle.answers.specs.Answers.{refusal};
+ghost use Rattle.link.specs.Link.{keyOf};
+ghost use Rattle.table.specs.Links.{rank, heldOf, holding};
+ghost use Rattle.table.specs.Sound.{most, isSound};
+ghost use Rattle.links.specs.Edits.{stays, addChecks, added, removed, tagRemoved, editedOf};
+use crate::search::below;
+use crate::search::holds;
+use crate::search::other_class;
+use answers::ALREADY_THERE;
+use answers::ANOTHER_CLASS;
+use answers::DONE;
+use answers::NO_LINK;
+use answers::NOT_SOUND;
+use answers::OUT_OF_RANGE;
+use answers::TABLE_FULL;
+use link::Link;
+use table::MOST;
+use table::Table;
+
+// What an edit answers, how many surviving links it moved, and the table that it leaves.
+pub struct Edited {
+    pub answer: u8,
+    pub moved: u64,
+    pub table: Table,
+}
+
+// How many places a link takes where the links of a tag go.
+fn places_kept(link: Link, tag: u64) -> usize
+    ensures { λ r. ⌜ r ≡ cond (stays tag link) 1 0 ⌝ }
+{
+    let gone = link.tag as u64 == tag;
+    if gone { 0 } else { 1 }
+}
+
+// Whether a link that stays comes to another place, as a number to count with.
+fn places_moved(link: Link, tag: u64, old: usize, new: usize) -> u64
+    ensures { λ r. ⌜ r ≡ cond (stays tag link) (cond (ltb new old) 1 0) 0 ⌝ }
+{
+    let gone = link.tag as u64 == tag;
+    if gone {
+        return 0;
+    }
+    let closer = new < old;
+    if closer { 1 } else { 0 }
+}
+
+// The number that refuses a new link, in the paper's order, or DONE.
+fn judge_new(table: Table, link: Link, place: usize) -> u8
+    requires { ⌜ isSound (heldOf table) ≡ true ⌝ }
+    requires { ⌜ place ≡ rank keyOf (keyOf link) (heldOf table .links) ⌝ }
+    ensures { λ r. ⌜ r ≡ refusal (addChecks link (heldOf table)) ⌝ }
+{
+    if !link.in_range() {
+        return OUT_OF_RANGE;
+    }
+    if holds(table, link, place) {
+        return ALREADY_THERE;
+    }
+    if other_class(table, link) {
+        return ANOTHER_CLASS;
+    }
+    if MOST <= table.count {
+        return TABLE_FULL;
+    }
+    DONE
+}
+
+// The table with a link put in at a place: the links from there on move up by one.
+fn with_at(table: Table, place: usize, link: Link) -> Table
+    requires { ⌜ place ≤ table .count ⌝ }
+    requires { ⌜ table .count < most ⌝ }
+    ensures { λ r. ⌜ heldOf r ≡ holding (take place (heldOf table .links) ++ link ∷ drop place (heldOf table .links)) ⌝ }
+{
+    let count = table.count;
+    let mut next = table;
+    let mut i = place;
+    while i < count {
+        let moving = table.links[i];
+        next.links[i + 1] = moving;
+        i += 1;
+    }
+    next.links[place] = link;
+    next.count = count + 1;
+    next
+}
+
+// The table without the link at a place: the links after it move down by one.
+fn without_at(table: Table, place: usize) -> Table
+    requires { ⌜ place < table .count ⌝ }
+    requires { ⌜ table .count ≤ most ⌝ }
+    ensures { λ r. ⌜ heldOf r ≡ holding (take place (heldOf table .links) ++ drop (suc place) (heldOf table .links)) ⌝ }
+{
+    let count = table.count;
+    let mut next = table;
+    let mut i = place + 1;
+    while i < count {
+        let moving = table.links[i];
+        next.links[i - 1] = moving;
+        i += 1;
+    }
+    next.count = count - 1;
+    next
+}
+
+// Adds a link; refused by 12, 1, 4, 8, 7, in this order.
+pub fn add(table: Table, link: Link) -> Edited
+    ensures { λ r. ⌜ editedOf r ≡ added link (heldOf table) ⌝ }
+{
+    if !table.is_sound() {
+        return Edited {
+            answer: NOT_SOUND,
+            moved: 0,
+            table,
+        };
+    }
+    let place = below(table, link.key());
+    let answer = judge_new(table, link, place);
+    if answer != DONE {
+        return Edited {
+            answer,
+            moved: 0,
+            table,
+        };
+    }
+    let count = table.count;
+    let grown = with_at(table, place, link);
+    Edited {
+        answer: DONE,
+        moved: (count - place) as u64,
+        table: grown,
+    }
+}
+
+// Removes a link; refused by 12, 5, in this order.
+pub fn remove(table: Table, link: Link) -> Edited
+    ensures { λ r. ⌜ editedOf r ≡ removed link (heldOf table) ⌝ }
+{
+    if !table.is_sound() {
+        return Edited {
+            answer: NOT_SOUND,
+            moved: 0,
+            table,
+        };
+    }
+    let place = below(table, link.key());
+    if !holds(table, link, place) {
+        return Edited {
+            answer: NO_LINK,
+            moved: 0,
+            table,
+        };
+    }
+    let count = table.count;
+    let shrunk = without_at(table, place);
+    Edited {
+        answer: DONE,
+        moved: (count - 1 - place) as u64,
+        table: shrunk,
+    }
+}
+
+// Removes all links of a tag; refused by 12. A tag that no link has removes nothing. Each link is stored at the next free
+// place, and only one that stays takes it.
+pub fn remove_tag(table: Table, tag: u64) -> Edited
+    ensures { λ r. ⌜ editedOf r ≡ tagRemoved tag (heldOf table) ⌝ }
+{
+    if !table.is_sound() {
+        return Edited {
+            answer: NOT_SOUND,
+            moved: 0,
+            table,
+        };
+    }
+    let count = table.count;
+    let mut next = table;
+    let mut free: usize = 0;
+    let mut moved: u64 = 0;
+    let mut i: usize = 0;
+    while i < count {
+        let link = table.links[i];
+        next.links[free] = link;
+        moved += places_moved(link, tag, i, free);
+        free += places_kept(link, tag);
+        i += 1;
+    }
+    next.count = free;
+    Edited {
+        answer: DONE,
+        moved,
+        table: next,
+    }
+}

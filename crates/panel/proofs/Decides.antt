@@ -15,9 +15,9 @@ use Rattle.tags.specs.Tags.{places}
 use Rattle.sound_blind.specs.Sound as ofBlind
 use Rattle.sound_blind.proofs.Decides.{sound-decides as blind-decides}
 use Rattle.link.specs.Link.{nothing}
-use Rattle.links.specs.Sound as ofLinks
-use Rattle.links.specs.Links.{Held}
-use Rattle.links.proofs.Sound.{sound-decided}
+use Rattle.table.specs.Sound as ofLinks
+use Rattle.table.specs.Links.{Held}
+use Rattle.table.proofs.Sound.{sound-decided}
 use Rattle.panel.specs.declared.Panel.{Panel}
 use Rattle.panel.specs.Panel.{Seat, Model, modelOf, presentIn}
 use Rattle.panel.specs.Sound.{Tagged, Sound, Fine, seatsIn, soundSeat, soundSeats, allNamed, isSound}

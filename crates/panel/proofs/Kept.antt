@@ -9,9 +9,9 @@ use mathlib.Core.Option.{Option, none, some, Option·map, Option·some-injective
 use lib.ListN.{length, getD}
 use Rattle.tags.specs.Tags.{places}
 use Rattle.sound_blind.specs.Sound as ofBlind
-use Rattle.links.specs.Links.{Held}
+use Rattle.table.specs.Links.{Held}
 use Rattle.link.specs.Link.{nothing}
-use Rattle.links.specs.Sound as ofLinks
+use Rattle.table.specs.Sound as ofLinks
 use Rattle.panel.specs.Panel.{Seat, Model, isThere, presentIn, bare, reseated, eachSeat, relinked}
 use Rattle.panel.specs.Sound.{Sound}
 use Rattle.panel.proofs.Seats.{reseated-at, reseated-other}

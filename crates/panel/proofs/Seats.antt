@@ -17,7 +17,7 @@ use Rattle.blind.specs.declared.Blind.{Blind}
 use Rattle.tags.specs.declared.Tags.{Tags}
 use Rattle.tags.specs.Tags.{TagSet, places, tagsOf, put, taken}
 use Rattle.tags.proofs.Members.{member-past}
-use Rattle.links.specs.Links.{Held}
+use Rattle.table.specs.Links.{Held}
 use Rattle.panel.specs.declared.Panel.{Panel}
 use Rattle.panel.specs.Panel.{Seat, Model, nobody, placeOf, seatsOf, modelOf, isThere, presentIn, reseated, eachSeat}
 use Rattle.panel.specs.Fields.{withPresent, withTerminals, withBlinds}

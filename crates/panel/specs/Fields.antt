@@ -4,7 +4,7 @@ use Prim.Native.Nat.{ℕ}
 use mathlib.Core.List.{List}
 use Rattle.blind.specs.declared.Blind.{Blind}
 use Rattle.tags.specs.declared.Tags.{Tags}
-use Rattle.links.specs.declared.table.Table.{Table}
+use Rattle.table.specs.declared.Table.{Table}
 use Rattle.panel.specs.declared.Panel.{Panel}
 
 abbrev pub withPresent : Tags → Panel → Panel

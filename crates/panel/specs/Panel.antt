@@ -13,7 +13,7 @@ use Rattle.blind.specs.Fields.{noFlags}
 use Rattle.blind.specs.declared.Last.{Last}
 use Rattle.blind.specs.declared.Motion.{Motion}
 use Rattle.tags.specs.Tags.{TagSet, tagsOf}
-use Rattle.links.specs.Links.{Held, heldOf, holding}
+use Rattle.table.specs.Links.{Held, heldOf, holding}
 use Rattle.panel.specs.declared.Panel.{Panel}
 
 -- A blind, and the terminal that it stands at.

@@ -13,7 +13,7 @@ use Rattle.tags.specs.Tags.{TagSet, places}
 use Rattle.sound_blind.specs.Sound as ofBlind
 use Rattle.link.specs.declared.Link.{Link}
 use Rattle.link.specs.Link.{nothing}
-use Rattle.links.specs.Sound as ofLinks
+use Rattle.table.specs.Sound as ofLinks
 use Rattle.panel.specs.Panel.{Seat, Model, presentIn}
 
 -- "Tags 0 to 63."

@@ -8,8 +8,8 @@ mod strip;
 ghost use mathlib.Core.Path.{_≡_};
 ghost use Rattle.panel.specs.Panel.{modelOf, bare};
 use blind::Blind;
-use links::table::Table;
 use params::Params;
+use table::Table;
 use tags::Tags;
 
 pub struct Panel {

@@ -16,7 +16,7 @@ use Rattle.laws.proofs.Choices.{both-left, both-right}
 use Rattle.laws.proofs.Fills.{tabulate-length, tabulate-at, tabulate-same, tabulate-list, tabulate-drop}
 use Rattle.tags.specs.Tags.{places}
 use Rattle.outputs.specs.Reports.{motorOf}
-use Rattle.links.specs.Sound as ofLinks
+use Rattle.table.specs.Sound as ofLinks
 use Rattle.panel.specs.Panel.{Seat, Model, presentIn}
 use Rattle.panel.specs.Strip.{terminals}
 use Rattle.panel.specs.Sound.{Sound, seatsIn, soundSeat, soundSeats, allNamed, isSound}

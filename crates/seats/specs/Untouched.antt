@@ -4,7 +4,7 @@ use Prim.Native.Nat.{ℕ}
 use mathlib.Core.Path.{_≡_}
 use mathlib.Core.Option.{Option, Option·map}
 use Rattle.blind.specs.declared.Blind.{Blind}
-use Rattle.links.specs.Links.{linksOf}
+use Rattle.table.specs.Links.{linksOf}
 use Rattle.panel.specs.Panel.{Model}
 
 -- The blind of a tag, if there is one.

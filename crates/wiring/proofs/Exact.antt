@@ -7,9 +7,9 @@ use Rattle.laws.proofs.Deciding.{le, neither}
 use Rattle.answers.proofs.Exact.{Told, all-told, told}
 use Rattle.link.specs.declared.Link.{Link}
 use Rattle.link.specs.Link.{inRange}
-use Rattle.links.specs.Sound.{most}
+use Rattle.table.specs.Sound.{most}
 use Rattle.link.proofs.Ranges.{InRange, range-reads}
-use Rattle.links.proofs.Sound.{Fine, sound-reads, sound-decided}
+use Rattle.table.proofs.Sound.{Fine, sound-reads, sound-decided}
 use Rattle.panel.specs.Panel.{Model}
 use Rattle.panel.specs.Sound.{Tagged, Sound}
 use Rattle.panel.specs.Calls.{Cells}

@@ -11,11 +11,11 @@ use Rattle.answers.specs.Answers.{Check, first, refusal, Outcome}
 use Rattle.answers.proofs.Refusals.{refused-by, passed-by, all-passed, answers, done}
 use Rattle.tags.specs.Tags.{TagSet, tagsOf}
 use Rattle.link.specs.declared.Link.{Link}
-use Rattle.links.specs.declared.table.Table.{Table}
-use Rattle.links.specs.declared.table_edits.Edited.{Edited}
+use Rattle.table.specs.declared.Table.{Table}
+use Rattle.links.specs.declared.Edited.{Edited}
 use Rattle.link.specs.Link.{inRange, keyOf}
-use Rattle.links.specs.Links.{Held, heldOf, holding}
-use Rattle.links.specs.Sound as ofLinks
+use Rattle.table.specs.Links.{Held, heldOf, holding}
+use Rattle.table.specs.Sound as ofLinks
 use Rattle.links.specs.Edits.{isIn, otherClass, unsound, addOwn, addMoved, addLinks, addChecks, added, removeOwn, removeMoved, removeLinks, removed, editedOf}
 use Rattle.panel.specs.declared.Panel.{Panel}
 use Rattle.panel.specs.Panel.{Model, seatsOf, modelOf, presentIn, relinked}

@@ -14,13 +14,13 @@ use Rattle.laws.proofs.Any.{either-left, either-right}
 use Rattle.link.specs.declared.Link.{Link}
 use Rattle.link.specs.Link.{inRange, keyOf, nothing}
 use Rattle.kinds.specs.Kinds.{classOf}
-use Rattle.links.specs.Links.{addressClass}
+use Rattle.table.specs.Links.{addressClass}
 use Rattle.links.specs.Edits.{isIn, otherClass}
 use Rattle.laws.proofs.Each.{Each, Pairs, each-at}
 use Rattle.link.proofs.Ranges.{InRange, range-reads, range-holds}
 use Rattle.link.proofs.Keys.{key-tells}
 use Rattle.link.proofs.Neighbours.{Agree}
-use Rattle.links.proofs.Spans.{agrees-all}
+use Rattle.links.proofs.Classes.{agrees-all}
 use Rattle.panel.specs.Panel.{Model}
 use Rattle.wiring.specs.Cases.{IsLink, InTable, OtherClass}
 

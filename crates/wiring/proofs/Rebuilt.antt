@@ -5,25 +5,24 @@ use native.Mathlib.Omega.{arith}
 use mathlib.Core.Path.{_≡_, refl, sym, ap, _∙_, subst}
 use mathlib.Core.Bool.{true, not}
 use mathlib.Core.List.{List, [], _∷_, List·Permᴰ, List·Permᴰ·trans, Permᴰ·symm}
-use lib.ListN.{length}
 use borrow.Author.Tests.{not-false}
-use Rattle.answers.specs.Answers.{refusal, Outcome}
+use Rattle.answers.specs.Answers.{refusal}
 use Rattle.answers.specs.Rules.{Result, carried}
 use Rattle.answers.proofs.Refusals.{all-passed, answers}
-use Rattle.answers.proofs.Rules.{carried-done, answer-is, done}
+use Rattle.answers.proofs.Rules.{carried-done, answer-is}
 use Rattle.link.specs.declared.Link.{Link}
 use Rattle.link.specs.Link.{inRange, keyOf}
-use Rattle.links.specs.Links.{Held, holding}
-use Rattle.links.specs.Sound as ofLinks
-use Rattle.links.specs.Edits.{addOwn, addLinks, addChecks, removeLinks, added}
+use Rattle.table.specs.Links.{Held, holding}
+use Rattle.table.specs.Sound as ofLinks
+use Rattle.links.specs.Edits.{addOwn, addChecks, removeLinks, added}
 use Rattle.links.specs.Afresh.{addedAll, AllAccepted, Afresh}
 use Rattle.laws.proofs.Each.{Each, first, rest, each-perm}
-use Rattle.links.proofs.Sound.{sound-decided}
+use Rattle.table.proofs.Sound.{sound-decided}
 use Rattle.links.proofs.Order.{inserted-perm}
 use Rattle.links.proofs.Leaves.{add-leaves}
 use Rattle.links.proofs.Afresh.{afresh}
 use Rattle.panel.specs.Panel.{Model, presentIn, relinked}
-use Rattle.panel.specs.Sound.{Sound, Fine}
+use Rattle.panel.specs.Sound.{Fine}
 use Rattle.panel.specs.Calls.{Cells, noCells}
 use Rattle.panel.proofs.Decides.{sound-tested}
 use Rattle.panel.proofs.Kept.{links-sound, bare-sound}

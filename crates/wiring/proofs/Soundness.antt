@@ -1,17 +1,15 @@
 -- Each accepted edit of links leaves a sound panel whose table has as many links as it says. Assumes nothing.
-use Prim.Native.Nat.{ℕ}
 use mathlib.Core.Path.{_≡_, refl, sym, ap, _∙_}
 use mathlib.Core.Bool.{true, not}
-use lib.ListN.{length}
-use Rattle.answers.specs.Answers.{refusal, Outcome}
+use Rattle.answers.specs.Answers.{refusal}
 use Rattle.answers.proofs.Refusals.{passed-by, answers}
 use Rattle.link.specs.declared.Link.{Link}
-use Rattle.links.specs.Links.{Held, holding}
+use Rattle.table.specs.Links.{holding}
 use Rattle.link.specs.Link.{nothing}
-use Rattle.links.specs.Sound as ofLinks
+use Rattle.table.specs.Sound as ofLinks
 use Rattle.links.specs.Edits.{addOwn, addLinks, addChecks, added, removeOwn, removeLinks, removed}
 use Rattle.laws.proofs.Each.{Each, each-at, each-of}
-use Rattle.links.proofs.Sound.{sound-decided}
+use Rattle.table.proofs.Sound.{sound-decided}
 use Rattle.links.proofs.Leaves.{add-leaves, remove-leaves}
 use Rattle.links.proofs.Untouched.{each-added, each-removed}
 use Rattle.panel.specs.Panel.{Model, presentIn}

@@ -6,7 +6,7 @@ use Rattle.answers.specs.Rules.{carried}
 use Rattle.answers.proofs.Rules.{leaves-has}
 use Rattle.link.specs.declared.Link.{Link}
 use Rattle.link.proofs.Ranges.{range-reads}
-use Rattle.links.proofs.Sound.{sound-reads}
+use Rattle.table.proofs.Sound.{sound-reads}
 use Rattle.links.proofs.Untouched.{of-added, of-removed}
 use Rattle.panel.specs.Panel.{Model}
 use Rattle.panel.specs.Calls.{Cells}

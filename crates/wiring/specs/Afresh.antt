@@ -4,7 +4,7 @@ use mathlib.Core.Path.{_≡_}
 use mathlib.Core.List.{List, [], _∷_}
 use Rattle.answers.specs.Rules.{carried}
 use Rattle.link.specs.declared.Link.{Link}
-use Rattle.links.specs.Links.{holding}
+use Rattle.table.specs.Links.{holding}
 use Rattle.panel.specs.Panel.{Model, relinked}
 use Rattle.panel.specs.Calls.{noCells}
 use Rattle.wiring.specs.Wiring.{addRule}

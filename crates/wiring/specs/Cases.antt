@@ -9,7 +9,7 @@ use Rattle.answers.specs.Cases.{Case, case}
 use Rattle.tags.specs.Tags.{places}
 use Rattle.link.specs.declared.Link.{Link}
 use Rattle.kinds.specs.Kinds.{classOf}
-use Rattle.links.specs.Sound.{most}
+use Rattle.table.specs.Sound.{most}
 use Rattle.link.specs.Link.{nothing}
 use Rattle.panel.specs.Panel.{Model}
 use Rattle.panel.specs.Sound.{Sound}

@@ -1,13 +1,12 @@
 -- Document 01, "Edits": "Add link, remove link: flags and orders stay. Every edit of the table answers how many surviving links
 -- stand at another place than before." What such an edit has against a link, counts and leaves is the table's own.
 -- Assumes nothing.
-use Prim.Native.Nat.{ℕ}
-use mathlib.Core.Bool.{cond, not}
+use mathlib.Core.Bool.{not}
 use mathlib.Core.List.{_∷_}
 use Rattle.answers.specs.Rules.{edit}
 use Rattle.link.specs.declared.Link.{Link}
-use Rattle.link.specs.Link.{inRange, nothing}
-use Rattle.links.specs.Links.{holding}
+use Rattle.link.specs.Link.{inRange}
+use Rattle.table.specs.Links.{holding}
 use Rattle.links.specs.Edits.{addOwn, addMoved, addLinks, removeOwn, removeMoved, removeLinks}
 use Rattle.panel.specs.Panel.{presentIn, relinked}
 use Rattle.panel.specs.Calls.{checks, CallRule}

@@ -6,6 +6,8 @@ use answers::NO_BLIND;
 use answers::NOT_SOUND;
 use answers::OUT_OF_RANGE;
 use link::Link;
+use links::add;
+use links::remove;
 use panel::Panel;
 use panel::calls::Answered;
 use panel::soundness::all_named;
@@ -30,7 +32,7 @@ pub fn add_link(mut panel: Panel, address: u64, tag: u64, kind: u64) -> Answered
     }
     let present = panel.present;
     let table = panel.table;
-    let grown = table.add(Link::made(address, tag, kind));
+    let grown = add(table, Link::made(address, tag, kind));
     let sound = (grown.answer != NOT_SOUND) & all_named(present, table);
     if !sound {
         return Answered {
@@ -72,7 +74,7 @@ pub fn remove_link(mut panel: Panel, address: u64, tag: u64, kind: u64) -> Answe
         };
     }
     let table = panel.table;
-    let shrunk = table.remove(Link::made(address, tag, kind));
+    let shrunk = remove(table, Link::made(address, tag, kind));
     let sound = (shrunk.answer != NOT_SOUND) & all_named(panel.present, table);
     if !sound {
         return Answered {

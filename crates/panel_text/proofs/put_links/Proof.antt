@@ -9,8 +9,8 @@ use lib.Seq.{getD-take}
 use borrow.Author.Needs.{needs}
 use Rattle.laws.proofs.Fills.{long}
 use Rattle.link.specs.declared.Link.{Link}
-use Rattle.links.specs.declared.table.Table.{Table}
-use Rattle.links.specs.Links.{heldOf}
+use Rattle.table.specs.declared.Table.{Table}
+use Rattle.table.specs.Links.{heldOf}
 use Rattle.link.specs.Link.{nothing}
 use Rattle.texts.specs.Sheet.{sheet, puts, each}
 use Rattle.texts.proofs.Sheet.{each-none, each-turn, each-all, put-on}

@@ -4,8 +4,8 @@ use native.Mathlib.Omega.{arith}
 use native.Mathlib.Nat.{le-antisymm}
 use borrow.Author.Needs.{needs}
 use Rattle.laws.proofs.Fills.{long}
-use Rattle.links.specs.Links.{heldOf, startOf}
-use Rattle.links.proofs.Stores.{few}
+use Rattle.table.specs.Links.{heldOf, startOf}
+use Rattle.table.proofs.Stores.{few}
 use Rattle.bus.proofs.Halving.{start-most, low-turn, high-turn}
 use Rattle.bus.proofs.spans.below.Statement.{statement}
 use Rattle.bus.proofs.spans.below.Tie as tie

@@ -6,8 +6,8 @@ use lib.ListN.{length}
 use borrow.Author.Needs.{needs}
 use Rattle.answers.proofs.Refusals.{refused-by}
 use Rattle.laws.proofs.Fills.{long}
-use Rattle.links.specs.Links.{heldOf}
-use Rattle.links.proofs.Stores.{few}
+use Rattle.table.specs.Links.{heldOf}
+use Rattle.table.proofs.Stores.{few}
 use Rattle.bus.specs.Telegrams.{isOutside}
 use Rattle.bus.proofs.Ranges.{inside}
 use Rattle.bus.proofs.Reach.{first-held, no-link, not-of-class, of-class, links-decide}

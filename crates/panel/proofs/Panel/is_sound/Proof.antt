@@ -3,7 +3,7 @@ use mathlib.Core.Path.{_≡_, sym, ap, _∙_}
 use borrow.Author.Needs.{needs}
 use borrow.Author.Tests.{not-true, not-false}
 use Rattle.tags.specs.Tags.{TagSet}
-use Rattle.links.specs.Links.{heldOf}
+use Rattle.table.specs.Links.{heldOf}
 use Rattle.panel.specs.Panel.{modelOf}
 use Rattle.panel.specs.Sound.{allNamed}
 use Rattle.panel.proofs.Seats.{present-tags}

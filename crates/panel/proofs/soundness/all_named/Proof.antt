@@ -10,8 +10,8 @@ use Rattle.laws.proofs.Fills.{long}
 use Rattle.laws.proofs.Counts.{failing, once, none-failing, failing-start, failing-more, failing-end}
 use Rattle.tags.specs.Tags.{TagSet, tagsOf}
 use Rattle.link.specs.declared.Link.{Link}
-use Rattle.links.specs.Links.{heldOf}
-use Rattle.links.proofs.Stores.{held-at}
+use Rattle.table.specs.Links.{heldOf}
+use Rattle.table.proofs.Stores.{held-at}
 use Rattle.link.specs.Link.{nothing}
 use Rattle.panel.specs.Sound.{allNamed}
 use Rattle.panel.proofs.soundness.all_named.Statement.{statement}

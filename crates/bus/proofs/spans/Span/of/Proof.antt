@@ -5,7 +5,7 @@ use mathlib.Core.Path.{_≡_, _∙_}
 use lib.ListN.{length}
 use borrow.Author.Needs.{needs}
 use Rattle.laws.proofs.Fills.{long}
-use Rattle.links.specs.Links.{heldOf, startOf, linksTo}
+use Rattle.table.specs.Links.{heldOf, startOf, linksTo}
 use Rattle.bus.proofs.Reach.{ends-at}
 use Rattle.bus.proofs.spans.Span.of.Statement.{statement}
 use Rattle.bus.proofs.spans.Span.of.Tie as tie

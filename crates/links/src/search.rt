@@ -1,0 +1,61 @@
+// The one search in a table, and what it tells of a link: whether it is there, and whether its address has another class.
+// All of it may be asked of a sound table only.
+
+ghost use mathlib.Core.Path.{_≡_};
+ghost use mathlib.Core.Bool.{true};
+ghost use Rattle.link.specs.Link.{keyOf};
+ghost use Rattle.table.specs.Links.{rank, heldOf};
+ghost use Rattle.table.specs.Sound.{isSound};
+ghost use Rattle.links.specs.Edits.{isIn, otherClass};
+use kinds::class_of_kind;
+use link::ADDRESS_STEP;
+use link::Link;
+use table::Table;
+
+// How many links stand below a key: the one search. The links ascend, so it ends at the first that is not below.
+pub(crate) fn below(table: Table, key: u64) -> usize
+    requires { ⌜ isSound (heldOf table) ≡ true ⌝ }
+    ensures { λ r. ⌜ r ≡ rank keyOf key (heldOf table .links) ⌝ }
+{
+    let count = table.count;
+    let mut i = 0;
+    while i < count {
+        let here = table.links[i];
+        if key <= here.key() {
+            return i;
+        }
+        i += 1;
+    }
+    i
+}
+
+// Whether a link stands at the place where the search for it ended.
+pub(crate) fn holds(table: Table, link: Link, place: usize) -> bool
+    requires { ⌜ isSound (heldOf table) ≡ true ⌝ }
+    requires { ⌜ place ≡ rank keyOf (keyOf link) (heldOf table .links) ⌝ }
+    ensures { λ r. ⌜ r ≡ isIn keyOf link (heldOf table .links) ⌝ }
+{
+    let count = table.count;
+    if count <= place {
+        return false;
+    }
+    let here = table.links[place];
+    here.key() == link.key()
+}
+
+// Whether the address of a link has another class: that of the first link that is not below the address, if it has it.
+pub(crate) fn other_class(table: Table, link: Link) -> bool
+    requires { ⌜ isSound (heldOf table) ≡ true ⌝ }
+    ensures { λ r. ⌜ r ≡ otherClass link (heldOf table .links) ⌝ }
+{
+    let start = below(table, link.address as u64 * ADDRESS_STEP);
+    let count = table.count;
+    if count <= start {
+        return false;
+    }
+    let first = table.links[start];
+    if first.address != link.address {
+        return false;
+    }
+    class_of_kind(first.kind) != class_of_kind(link.kind)
+}

@@ -1,0 +1,5 @@
+pub mod Ranks
+pub mod Sound
+pub mod Misfits
+pub mod Spans
+pub mod Stores
