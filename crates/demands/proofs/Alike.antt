@@ -11,7 +11,7 @@ use Rattle.table.specs.Links.{linksTo, linksOf}
 use Rattle.panel.specs.Panel.{Seat, Model}
 use Rattle.panel.specs.Sound.{Fine}
 use Rattle.panel.specs.Calls.{Cells}
-use Rattle.bus.specs.Locality.{reached}
+use Rattle.telegrams.specs.Locality.{reached}
 use Rattle.readings.specs.Strip.{stripRule}
 use Rattle.readings.specs.Inventory.{inventoryRule}
 use Rattle.seats.specs.Untouched.{blindAt, Untouched}

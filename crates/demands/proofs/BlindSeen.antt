@@ -17,10 +17,12 @@ use Rattle.outputs.specs.Reports.{noReport}
 use Rattle.panel.specs.Panel.{Seat, Model}
 use Rattle.panel.specs.Sound.{Sound}
 use Rattle.panel.specs.Calls.{Cells, CallRule}
-use Rattle.bus.specs.Locality.{reached, heardBy, SeenAt}
-use Rattle.bus.specs.Telegrams.{telegramRule}
-use Rattle.bus.specs.TimeSteps.{stepRule}
-use Rattle.bus.proofs.Locality.{telegram-local, time-step-local}
+use Rattle.panel.specs.Reports.{SeenAt}
+use Rattle.telegrams.specs.Locality.{reached, heardBy}
+use Rattle.telegrams.specs.Telegrams.{telegramRule}
+use Rattle.time_steps.specs.TimeSteps.{stepRule}
+use Rattle.telegrams.proofs.Locality.{telegram-local}
+use Rattle.time_steps.proofs.Locality.{time-step-local}
 use Rattle.seats.specs.Untouched.{blindAt}
 use Rattle.demands.specs.Runs.{reportOf}
 use Rattle.demands.proofs.Seats.{seat-of}

@@ -31,9 +31,9 @@ use Rattle.links.specs.Edits.{moved as movedLinks}
 use Rattle.panel.specs.Panel.{presentIn, reseated, eachSeat}
 use Rattle.panel.specs.Sound.{seatsIn, soundSeat, soundSeats, allNamed, isSound}
 use Rattle.panel.specs.Calls.{checks, lentChecks}
-use Rattle.bus.specs.Reports.{reports}
-use Rattle.bus.specs.Telegrams.{isOutside, linkChecks, served, delivered, afterTelegram, telegramRule}
-use Rattle.bus.specs.TimeSteps.{afterStep, stepRule}
+use Rattle.panel.specs.Reports.{reports}
+use Rattle.telegrams.specs.Telegrams.{isOutside, linkChecks, served, delivered, afterTelegram, telegramRule}
+use Rattle.time_steps.specs.TimeSteps.{afterStep, stepRule}
 use Rattle.readings.specs.Strip.{commandAt, commands, stripRule}
 use Rattle.seats.specs.Seats.{someSeat, inUse, busyFrom, wouldPass}
 use Rattle.edits.specs.Edits.{installRule}

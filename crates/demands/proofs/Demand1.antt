@@ -12,9 +12,10 @@ use Rattle.answers.proofs.Exact.{Told, exactly-rule}
 use Rattle.panel.specs.Panel.{Model}
 use Rattle.panel.specs.Sound.{Tagged}
 use Rattle.panel.specs.Calls.{Cells, checks, lentChecks}
-use Rattle.bus.specs.Telegrams.{linkChecks, telegramRule}
-use Rattle.bus.specs.TimeSteps.{stepRule}
-use Rattle.bus.proofs.Exact.{telegram-told, step-told}
+use Rattle.telegrams.specs.Telegrams.{linkChecks, telegramRule}
+use Rattle.time_steps.specs.TimeSteps.{stepRule}
+use Rattle.telegrams.proofs.Exact.{telegram-told}
+use Rattle.time_steps.proofs.Exact.{step-told}
 use Rattle.readings.specs.Strip.{stripRule}
 use Rattle.readings.specs.Inventory.{inventoryRule}
 use Rattle.readings.proofs.Exact.{strip-told, inventory-told}

@@ -27,17 +27,16 @@ use Rattle.rules.specs.Edits.{rewritten}
 use Rattle.conduct.proofs.SoundCourses.{heeded-sound, input-of-class}
 use Rattle.conduct.proofs.Owed.{owed, owedAt, heeded-keeps}
 use Rattle.link.specs.declared.Link.{Link}
-use Rattle.panel.specs.Panel.{Seat, Model, presentIn, isThere, reseated, eachSeat}
+use Rattle.panel.specs.Panel.{Seat, Model, presentIn, isThere, reseated, eachSeat, onBlind}
 use Rattle.panel.specs.Sound.{Sound, Fine}
 use Rattle.panel.specs.Calls.{Cells}
-use Rattle.bus.specs.Seats.{onBlind}
-use Rattle.bus.specs.TimeSteps.{afterStep, stepRule}
+use Rattle.time_steps.specs.TimeSteps.{afterStep, stepRule}
 use Rattle.tags.specs.Tags.{places}
 use Rattle.panel.proofs.Checks.{lent-passed}
-use Rattle.bus.specs.Telegrams.{isOutside, linkChecks, telegramRule}
-use Rattle.bus.proofs.Ranges.{inside}
-use Rattle.bus.specs.Locality.{reached, heardBy}
-use Rattle.bus.proofs.Soundness.{step-sound}
+use Rattle.telegrams.specs.Telegrams.{isOutside, linkChecks, telegramRule}
+use Rattle.telegrams.proofs.Ranges.{inside}
+use Rattle.telegrams.specs.Locality.{reached, heardBy}
+use Rattle.time_steps.proofs.Soundness.{step-sound}
 use Rattle.seats.specs.Seats.{isBusy}
 use Rattle.seats.specs.Untouched.{blindAt}
 use Rattle.params.specs.Numbers.{paramsOf}

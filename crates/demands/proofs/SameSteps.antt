@@ -26,10 +26,12 @@ use Rattle.panel.specs.Calls.{Cells, lentChecks}
 use Rattle.panel.proofs.Decides.{sound-tested}
 use Rattle.panel.proofs.Checks.{lent-right, lent-wrong, is-sound}
 use Rattle.outputs.specs.Reports.{noReport}
-use Rattle.bus.specs.Telegrams.{isOutside, linkChecks, telegramRule}
-use Rattle.bus.specs.TimeSteps.{longest, stepRule}
-use Rattle.bus.specs.Locality.{reached, heardBy}
-use Rattle.bus.proofs.Locality.{report-same, telegram-links, time-step-links, telegram-decided}
+use Rattle.telegrams.specs.Telegrams.{isOutside, linkChecks, telegramRule}
+use Rattle.time_steps.specs.TimeSteps.{longest, stepRule}
+use Rattle.telegrams.specs.Locality.{reached, heardBy}
+use Rattle.outputs.proofs.Reports.{report-same}
+use Rattle.telegrams.proofs.Locality.{telegram-links, telegram-decided}
+use Rattle.time_steps.proofs.Locality.{time-step-links}
 use Rattle.demands.specs.Calls.{telegram, timeStep, does}
 use Rattle.demands.specs.Runs.{reportOf}
 use Rattle.demands.proofs.Seats.{seat-of}

@@ -15,10 +15,11 @@ use Rattle.panel.specs.Panel.{Model, eachSeat}
 use Rattle.panel.specs.Sound.{Sound, Fine, isSound}
 use Rattle.panel.specs.Calls.{Cells, checks, lentChecks}
 use Rattle.panel.proofs.Decides.{sound-tested}
-use Rattle.bus.specs.Telegrams.{linkChecks, afterTelegram, telegramRule}
-use Rattle.bus.specs.TimeSteps.{afterStep, stepRule}
-use Rattle.bus.proofs.Locality.{delivered-table}
-use Rattle.bus.proofs.Soundness.{telegram-keeps, step-keeps}
+use Rattle.telegrams.specs.Telegrams.{linkChecks, afterTelegram, telegramRule}
+use Rattle.time_steps.specs.TimeSteps.{afterStep, stepRule}
+use Rattle.telegrams.proofs.Locality.{delivered-table}
+use Rattle.telegrams.proofs.Soundness.{telegram-keeps}
+use Rattle.time_steps.proofs.Soundness.{step-keeps}
 use Rattle.readings.specs.Strip.{stripRule}
 use Rattle.readings.specs.Inventory.{inventoryRule}
 use Rattle.edits.specs.Edits.{installRule, removeRule, writeRule}

@@ -25,7 +25,7 @@ use Rattle.link.specs.declared.Link.{Link}
 use Rattle.panel.specs.Panel.{Model}
 use Rattle.panel.specs.Sound.{Fine}
 use Rattle.panel.specs.Calls.{Cells}
-use Rattle.bus.specs.Locality.{reached, heardBy}
+use Rattle.telegrams.specs.Locality.{reached, heardBy}
 use Rattle.seats.specs.Untouched.{blindAt}
 use Rattle.demands.specs.Calls.{Call, telegram, timeStep, strip, install, removeBlind, writeParams, addLink, removeLink, spliceIn, spliceOut, inventory, does}
 use Rattle.demands.specs.Runs.{Turn, Run, Each, after, gives, lasting, duration, motorSeen}

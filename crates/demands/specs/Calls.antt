@@ -6,8 +6,8 @@ use Rattle.answers.specs.Rules.{Result, carried}
 use Rattle.link.specs.declared.Link.{Link}
 use Rattle.panel.specs.Panel.{Model}
 use Rattle.panel.specs.Calls.{Cells, CallRule}
-use Rattle.bus.specs.Telegrams.{telegramRule}
-use Rattle.bus.specs.TimeSteps.{stepRule}
+use Rattle.telegrams.specs.Telegrams.{telegramRule}
+use Rattle.time_steps.specs.TimeSteps.{stepRule}
 use Rattle.readings.specs.Strip.{stripRule}
 use Rattle.readings.specs.Inventory.{inventoryRule}
 use Rattle.edits.specs.Edits.{installRule, removeRule, writeRule}

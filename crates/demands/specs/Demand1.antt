@@ -9,7 +9,8 @@ use Rattle.answers.specs.Rules.{refusedBy, doneBy}
 use Rattle.panel.specs.Panel.{Model}
 use Rattle.panel.specs.Sound.{Tagged}
 use Rattle.panel.specs.Calls.{Cells}
-use Rattle.bus.specs.Cases.{telegramCases, stepCases}
+use Rattle.telegrams.specs.Cases.{telegramCases}
+use Rattle.time_steps.specs.Cases.{stepCases}
 use Rattle.readings.specs.Cases.{stripCases, inventoryCases}
 use Rattle.edits.specs.Cases.{installCases, removeCases, writeCases}
 use Rattle.wiring.specs.Cases.{addCases, removeLinkCases}

@@ -14,8 +14,8 @@ use Rattle.conduct.specs.Pauses.{opposite, offs}
 use Rattle.conduct.specs.Undisturbed.{Idle}
 use Rattle.link.specs.declared.Link.{Link}
 use Rattle.panel.specs.Panel.{Model}
-use Rattle.bus.specs.Locality.{reached}
-use Rattle.bus.specs.TimeSteps.{afterStep}
+use Rattle.telegrams.specs.Locality.{reached}
+use Rattle.time_steps.specs.TimeSteps.{afterStep}
 use Rattle.seats.specs.Untouched.{blindAt}
 use Rattle.demands.specs.Calls.{Call, telegram, timeStep, strip, install, removeBlind, writeParams, addLink, removeLink, spliceIn, spliceOut, inventory}
 use Rattle.demands.specs.Runs.{Turn, Run, gives, lasting, motorSeen}

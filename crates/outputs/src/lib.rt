@@ -5,7 +5,8 @@ use blind::Motion;
 use blind::Run;
 use heights::Direction;
 ghost use mathlib.Core.Path.{_≡_};
-ghost use Rattle.outputs.specs.Reports.{command, motorOf, active, busy, report};
+ghost use mathlib.Core.Bool.{cond};
+ghost use Rattle.outputs.specs.Reports.{command, motorOf, active, busy, noReport, report};
 
 // What a cell holds where a blind has nothing to report.
 pub const NO_REPORT: u16 = 512;
@@ -43,6 +44,17 @@ pub fn report(before: Blind, after: Blind) -> u64
         NO_REPORT as u64
     } else {
         after.place.told(after.params)
+    }
+}
+
+// The cell of a tag after a call. A tag without a blind has nothing to report.
+pub fn cell(there: bool, before: Blind, after: Blind) -> u64
+    ensures { λ r. ⌜ r ≡ cond there (report before after) noReport ⌝ }
+{
+    if there {
+        report(before, after)
+    } else {
+        NO_REPORT as u64
     }
 }
 

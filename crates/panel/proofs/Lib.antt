@@ -6,3 +6,4 @@ pub mod Checks
 pub mod Kept
 pub mod Rules
 pub mod Exact
+pub mod Cells

@@ -63,6 +63,10 @@ reseated t seat m = record { seats = λ tag. cond (eqb tag t) seat (m .seats tag
 unfoldable pub eachSeat : (ℕ → Seat → Seat) → Model → Model
 eachSeat rule m = record { seats = λ tag. Option·map (rule tag) (m .seats tag); table = m .table }
 
+-- The blind of a seat is another one, and it stays at its terminal.
+abbrev pub onBlind : (Blind → Blind) → Seat → Seat
+onBlind f seat = record { terminal = seat .terminal; blind = f (seat .blind) }
+
 -- Other links. Every seat stays.
 abbrev pub relinked : Held → Model → Model
 relinked table m = record { seats = m .seats; table = table }

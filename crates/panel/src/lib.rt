@@ -10,12 +10,13 @@ ghost use Rattle.panel.specs.Panel.{modelOf, bare};
 use blind::Blind;
 use params::Params;
 use table::Table;
+use tags::CELLS;
 use tags::Tags;
 
 pub struct Panel {
     pub present: Tags,
-    pub terminals: [u8; 64],
-    pub blinds: [Blind; 64],
+    pub terminals: [u8; CELLS],
+    pub blinds: [Blind; CELLS],
     pub table: Table,
 }
 
@@ -29,8 +30,8 @@ impl Panel {
         let table = Table::empty();
         Panel {
             present,
-            terminals: [0; 64],
-            blinds: [blind; 64],
+            terminals: [0; CELLS],
+            blinds: [blind; CELLS],
             table,
         }
     }

@@ -6,6 +6,7 @@ use blind::Blind;
 use link::Link;
 use table::MOST;
 use table::Table;
+use tags::CELLS;
 use tags::Tags;
 ghost use Prim.Native.Nat.{min};
 ghost use mathlib.Core.Path.{_≡_};
@@ -39,7 +40,7 @@ impl Panel {
         ensures { λ r. ⌜ r ≡ soundSeats (modelOf self) ⌝ }
     {
         let mut met = Strip::empty();
-        for tag in 0..64 {
+        for tag in 0..CELLS {
             if self.present.has(tag as u64) {
                 let terminal = self.terminals[tag];
                 let blind = self.blinds[tag];

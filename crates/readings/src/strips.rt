@@ -6,6 +6,7 @@ use answers::WRONG_CELLS;
 use outputs::motor;
 use panel::Panel;
 use panel::calls::Answered;
+use tags::CELLS;
 ghost use mathlib.Core.Path.{_≡_};
 ghost use lib.ListN.{length};
 ghost use Rattle.panel.specs.Strip.{terminals};
@@ -35,7 +36,7 @@ pub fn strip(panel: Panel, cells: &mut [u8]) -> Answered
         };
     }
     clear(cells);
-    for tag in 0..64 {
+    for tag in 0..CELLS {
         if panel.present.has(tag as u64) {
             let terminal = panel.terminals[tag] as usize;
             let blind = panel.blinds[tag];

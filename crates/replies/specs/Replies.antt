@@ -11,8 +11,8 @@ use Rattle.link.specs.Link.{linkOf}
 use Rattle.panel.specs.Panel.{Model, modelOf, bare}
 use Rattle.panel.specs.Strip.{terminals}
 use Rattle.panel.specs.Calls.{Cells, row, noCells, CallRule}
-use Rattle.bus.specs.Telegrams.{telegramRule}
-use Rattle.bus.specs.TimeSteps.{stepRule}
+use Rattle.telegrams.specs.Telegrams.{telegramRule}
+use Rattle.time_steps.specs.TimeSteps.{stepRule}
 use Rattle.readings.specs.Strip.{stripRule}
 use Rattle.readings.specs.Inventory.{inventoryRule}
 use Rattle.edits.specs.Edits.{installRule, removeRule, writeRule}

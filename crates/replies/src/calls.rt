@@ -1,7 +1,5 @@
 // A command carried out: the panel's own call, and its answer on the sheet.
 use crate::After;
-use bus::telegrams::telegram;
-use bus::time_steps::time_step;
 use commands::Command;
 use commands::Edit;
 use decimals::put_number;
@@ -21,7 +19,9 @@ use shows::numbers::put_counted;
 use shows::numbers::put_spaced;
 use splices::splice_in;
 use splices::splice_out;
+use telegrams::telegram;
 use texts::sheets::put_text;
+use time_steps::time_step;
 use wiring::add_link;
 use wiring::remove_link;
 ghost use mathlib.Core.Path.{_≡_};

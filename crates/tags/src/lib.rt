@@ -7,6 +7,9 @@ ghost use Rattle.tags.specs.Tags.{places, tagsOf, none, put, taken, howM
 // Tags are the numbers below this one.
 pub const PLACES: u64 = 64;
 
+// The same, to count places by: one cell, and one place of an array, for each tag.
+pub const CELLS: usize = PLACES as usize;
+
 pub struct Tags {
     pub word: u64,
 }

@@ -1,9 +1,9 @@
 // The calls of the bus, each made n times: a call gets the panel that the one before left.
 use crate::tally::Tally;
-use bus::telegrams::telegram;
-use bus::time_steps::time_step;
 use panel::Panel;
 use readings::strips::strip;
+use telegrams::telegram;
+use time_steps::time_step;
 
 // How long the blinds of a workload surely run.
 const RUNNING: u64 = 540_000;

@@ -1,11 +1,11 @@
 // The panels that the workloads start from, built by the panel's own calls: so many blinds, at rest or all of them
 // running, and so many links, of which some share one address in the middle of the table.
-use bus::telegrams::telegram;
-use bus::time_steps::time_step;
 use edits::blinds::install;
 use panel::Panel;
 use params::Asked;
 use std::num::wrapping_add_u64;
+use telegrams::telegram;
+use time_steps::time_step;
 use wiring::add_link;
 use wiring::remove_link;
 

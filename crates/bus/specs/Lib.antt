@@ -1,6 +1,0 @@
-pub mod Seats
-pub mod Reports
-pub mod Telegrams
-pub mod TimeSteps
-pub mod Cases
-pub mod Locality

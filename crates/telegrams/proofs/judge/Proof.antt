@@ -1,0 +1,76 @@
+-- The numbers first; then the span of the address tells whether it has a link, and its first link the class.
+use native.Mathlib.Omega.{arith}
+use mathlib.Core.Path.{_≡_, sym, _∙_}
+use mathlib.Core.Bool.{false}
+use lib.ListN.{length}
+use borrow.Author.Needs.{needs}
+use Rattle.answers.proofs.Refusals.{refused-by}
+use Rattle.laws.proofs.Fills.{long}
+use Rattle.table.specs.Links.{heldOf}
+use Rattle.table.proofs.Stores.{few}
+use Rattle.telegrams.specs.Telegrams.{isOutside}
+use Rattle.telegrams.proofs.Ranges.{inside}
+use Rattle.telegrams.proofs.Reached.{first-held, no-link, not-of-class, of-class, links-decide}
+use Rattle.telegrams.proofs.judge.Statement.{statement}
+use Rattle.telegrams.proofs.judge.Tie as tie
+
+returns : tie.Need-returns
+returns c = (sym (refused-by _ 1 _ (sym (c .before .is-outside .ensures) ∙ c .if1 .taken)), λ e. absurd (omega arith))
+
+-- the numbers are in range
+within : (c : tie.Else1) → isOutside (c .before .before .args .address) (c .before .before .args .value) ≡ false
+within c = sym (c .before .is-outside .ensures) ∙ c .if1 .left
+
+-- the table has its 512 places
+room : (c : tie.Start) → length (c .args .t1 .links) ≡ 512
+room c = search (long, needs)
+
+returns-2 : tie.Need-returns-2
+returns-2 c =
+    let start = c .before .before .before .before in
+    let span = c .before .of .ensures in (
+      links-decide (start .args .address) (start .args .value) (heldOf (start .args .t1) .links) (within (c .before .before))
+          (no-link (start .args .t1) (start .args .address) (start .pre) (room start) (span .from) (span .counted) (start .args .value) (c .if2 .taken)),
+      λ e. absurd (omega arith),
+    )
+
+-- the first link of the address is in the table
+first-in : tie.Need-element-copy-out-first
+first-in c =
+    let start = c .before .before .before .before in
+    let span = c .before .of .ensures in
+    omega (arith, first-held (start .args .t1) (start .args .address) (start .pre) (room start) (span .from) (span .counted) (c .if2 .left), few (start .args .t1) (start .pre))
+
+returns-3 : tie.Need-returns-3
+returns-3 c =
+    let start = c .before .before .before .before .before .before .before in
+    let span = c .before .before .before .before .of .ensures in (
+      links-decide (start .args .address) (start .args .value) (heldOf (start .args .t1) .links) (within (c .before .before .before .before .before))
+          (not-of-class (start .args .t1) (start .args .address) (start .pre) (room start) (span .from) (span .counted) (c .before .before .before .if2 .left)
+          (start .args .value) (c .before .class .ensures) (c .if3 .taken)),
+      λ e. absurd (omega arith),
+    )
+
+returns-4 : tie.Need-returns-4
+returns-4 c =
+    let start = c .before .before .before .before .before .before .before in
+    let span = c .before .before .before .before .of .ensures in (
+      links-decide (start .args .address) (start .args .value) (heldOf (start .args .t1) .links) (within (c .before .before .before .before .before))
+          (of-class (start .args .t1) (start .args .address) (start .pre) (room start) (span .from) (span .counted) (c .before .before .before .if2 .left)
+          (start .args .value) (c .before .class .ensures) (c .if3 .left)),
+      λ e. span,
+    )
+
+pub judge-spec : {M : Type 1} → statement M
+judge-spec =
+    tie.close
+    (tie.spec
+    (λ c κs. search needs)
+    returns
+    (λ c κs. (c .before .before .pre, inside _ _ (within c) .address-high))
+    returns-2
+    (λ c. omega (arith, first-in c))
+    first-in
+    (λ c κs. search needs)
+    returns-3
+    returns-4)

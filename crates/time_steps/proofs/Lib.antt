@@ -1,0 +1,4 @@
+pub mod Steps
+pub mod Soundness
+pub mod Locality
+pub mod Exact

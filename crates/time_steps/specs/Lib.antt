@@ -1,0 +1,2 @@
+pub mod TimeSteps
+pub mod Cases
