@@ -1,4 +1,5 @@
 pub mod Strip
+pub mod Ways
 pub mod Shifts
 pub mod Soundness
 pub mod Untouched

@@ -1,5 +1,6 @@
 // Document 01, "Edits", splices: terminals are put into the strip or taken out of it, and the terminals after them move.
-// One pass over the tags judges, one writes the terminals of the present tags; blinds, links and tags stay.
+// Both ways are one: the first `down` terminals from t on are taken out, and those after them rise by `up` and fall by
+// `down`. One pass over the tags judges, one writes the terminals of the present tags; blinds, links and tags stay.
 use answers::BUSY;
 use answers::DONE;
 use answers::NOT_SOUND;
@@ -13,55 +14,26 @@ use tags::Tags;
 ghost use Prim.Native.Nat.{_+_, _≤_, _<_};
 ghost use mathlib.Core.Path.{_≡_};
 ghost use mathlib.Core.Bool.{true, cond};
+ghost use mathlib.Core.List.{[], _∷_};
+ghost use lib.Dec.{eqb};
+ghost use Rattle.answers.specs.Answers.{refusal};
 ghost use Rattle.tags.specs.Tags.{tagsOf};
+ghost use Rattle.panel.specs.Panel.{modelOf};
 ghost use Rattle.panel.specs.Strip as strip;
 ghost use Rattle.panel.specs.Calls.{noCells, Does};
-ghost use Rattle.splices.specs.Splices.{offStrip, raised, lowered, spliceInRule, spliceOutRule};
-ghost use Rattle.splices.specs.Places.{Room, shiftedPlaces};
+ghost use Rattle.splices.specs.Splices.{offStrip, spliceInRule, spliceOutRule};
+ghost use Rattle.splices.specs.Places.{moved, spliceRule, Room, shiftedPlaces};
 
 // Splices n terminals in at t; refused by 12, 1, 3, 9, in this order.
 pub fn splice_in(mut panel: Panel, t: u64, n: u64) -> Answered
     ensures { λ r. ⌜ Does (spliceInRule t n) panel noCells r noCells ⌝ }
 {
-    if !panel.is_sound() {
-        return Answered {
-            answer: NOT_SOUND,
-            count: 0,
-            panel,
-        };
-    }
-    if is_off_strip(t, n) {
-        return Answered {
-            answer: OUT_OF_RANGE,
-            count: 0,
-            panel,
-        };
-    }
-    let present = panel.present;
-    let mut past = false;
-    for tag in 0..64 {
-        let terminal = panel.terminals[tag];
-        let blind = panel.blinds[tag];
-        if seats::is_busy_above(present, tag, terminal, blind, t) {
-            return Answered {
-                answer: BUSY,
-                count: 0,
-                panel,
-            };
-        }
-        past = past | seats::passes_end(present, tag, terminal, t, n);
-    }
-    if past {
-        return Answered {
-            answer: PAST_THE_STRIP,
-            count: 0,
-            panel,
-        };
-    }
-    let raised = raise_all(present, panel.terminals, t, n);
+    let answer = judge(panel, t, n, n, 0);
+    let terminals = panel.terminals;
+    let raised = shift_all(answer, panel.present, terminals, t, n, 0);
     panel.terminals = raised;
     Answered {
-        answer: DONE,
+        answer,
         count: 0,
         panel,
     }
@@ -71,49 +43,54 @@ pub fn splice_in(mut panel: Panel, t: u64, n: u64) -> Answered
 pub fn splice_out(mut panel: Panel, t: u64, n: u64) -> Answered
     ensures { λ r. ⌜ Does (spliceOutRule t n) panel noCells r noCells ⌝ }
 {
-    if !panel.is_sound() {
-        return Answered {
-            answer: NOT_SOUND,
-            count: 0,
-            panel,
-        };
-    }
-    if is_off_strip(t, n) {
-        return Answered {
-            answer: OUT_OF_RANGE,
-            count: 0,
-            panel,
-        };
-    }
-    let present = panel.present;
-    let end = t + n;
-    let mut busy = false;
-    for tag in 0..64 {
-        let terminal = panel.terminals[tag];
-        let blind = panel.blinds[tag];
-        if seats::stands_within(present, tag, terminal, t, end) {
-            return Answered {
-                answer: TERMINAL_IN_USE,
-                count: 0,
-                panel,
-            };
-        }
-        busy = busy | seats::is_busy_above(present, tag, terminal, blind, end);
-    }
-    if busy {
-        return Answered {
-            answer: BUSY,
-            count: 0,
-            panel,
-        };
-    }
-    let lowered = lower_all(present, panel.terminals, t, n);
+    let answer = judge(panel, t, n, 0, n);
+    let terminals = panel.terminals;
+    let lowered = shift_all(answer, panel.present, terminals, t, 0, n);
     panel.terminals = lowered;
     Answered {
-        answer: DONE,
+        answer,
         count: 0,
         panel,
     }
+}
+
+// What refuses a splice, 0 if nothing does. It only reads the panel, and is small enough to become part of the calls.
+fn judge(panel: Panel, t: u64, n: u64, up: u64, down: u64) -> u8
+    requires { ⌜ down ≤ n ⌝ }
+    ensures { λ r. ⌜ r ≡ refusal (spliceRule t n up down .checks (modelOf panel) noCells) ⌝ }
+{
+    if !panel.is_sound() {
+        return NOT_SOUND;
+    }
+    if is_off_strip(t, n) {
+        return OUT_OF_RANGE;
+    }
+    let present = panel.present;
+    let from = t + down;
+    let mut used = false;
+    let mut busy = false;
+    let mut past = false;
+    for tag in 0..64 {
+        let terminal = panel.terminals[tag];
+        let blind = panel.blinds[tag];
+        used = used | seats::stands_within(present, tag, terminal, t, from);
+        busy = busy | seats::is_busy_above(present, tag, terminal, blind, from);
+        past = past | seats::passes_end(present, tag, terminal, from, up);
+    }
+    first_met(used, busy, past)
+}
+
+// The number of what was met at a tag: a terminal in use, a busy blind, or a terminal that would pass the strip.
+fn first_met(used: bool, busy: bool, past: bool) -> u8
+    ensures { λ r. ⌜ r ≡ refusal ((used, 10) ∷ (busy, 3) ∷ (past, 9) ∷ []) ⌝ }
+{
+    if used {
+        return TERMINAL_IN_USE;
+    }
+    if busy {
+        return BUSY;
+    }
+    if past { PAST_THE_STRIP } else { DONE }
 }
 
 // Compared without a sum, which could wrap.
@@ -129,58 +106,34 @@ fn is_off_strip(t: u64, n: u64) -> bool
     TERMINALS - t < n
 }
 
-// The terminals of the present tags from t on rise by n.
-fn raise_all(present: Tags, terminals: [u8; 64], t: u64, n: u64) -> [u8; 64]
-    requires { ⌜ Room (tagsOf present) terminals t n ⌝ }
-    ensures { λ r. ⌜ r ≡ shiftedPlaces (tagsOf present) (raised t n) terminals ⌝ }
+// The terminals of the present tags move if nothing refuses.
+fn shift_all(answer: u8, present: Tags, terminals: [u8; 64], t: u64, up: u64, down: u64) -> [u8; 64]
+    requires { ⌜ (answer ≡ 0 → Room (tagsOf present) terminals t up down) ⌝ }
+    ensures { λ r. ⌜ r ≡ cond (eqb answer 0) (shiftedPlaces (tagsOf present) (moved t up down) terminals) terminals ⌝ }
 {
     let mut next = terminals;
-    for tag in 0..64 {
-        let terminal = terminals[tag];
-        next[tag] = raise(present, tag, terminal, t, n);
+    if answer != DONE {
+        return next;
     }
-    next
-}
-
-// The terminals of the present tags from t + n on fall by n.
-fn lower_all(present: Tags, terminals: [u8; 64], t: u64, n: u64) -> [u8; 64]
-    requires { ⌜ t + n ≤ strip.terminals ⌝ }
-    ensures { λ r. ⌜ r ≡ shiftedPlaces (tagsOf present) (lowered t n) terminals ⌝ }
-{
-    let mut next = terminals;
     for tag in 0..64 {
         let terminal = terminals[tag];
-        next[tag] = lower(present, tag, terminal, t, n);
+        next[tag] = shift(present, tag, terminal, t, up, down);
     }
     next
 }
 
 // What stands at an absent tag's place stays.
-fn raise(present: Tags, tag: usize, terminal: u8, t: u64, n: u64) -> u8
-    requires { ⌜ (tagsOf present tag ≡ true → t ≤ terminal → terminal + n < strip.terminals) ⌝ }
-    ensures { λ r. ⌜ r ≡ cond (tagsOf present tag) (raised t n terminal) terminal ⌝ }
+fn shift(present: Tags, tag: usize, terminal: u8, t: u64, up: u64, down: u64) -> u8
+    requires { ⌜ t + down ≤ strip.terminals ⌝ }
+    requires { ⌜ (tagsOf present tag ≡ true → t + down ≤ terminal → terminal + up < strip.terminals) ⌝ }
+    ensures { λ r. ⌜ r ≡ cond (tagsOf present tag) (moved t up down terminal) terminal ⌝ }
 {
     if !present.has(tag as u64) {
         return terminal;
     }
     let place = terminal as u64;
-    if place < t {
+    if place < t + down {
         return terminal;
     }
-    (place + n) as u8
-}
-
-// What stands at an absent tag's place stays.
-fn lower(present: Tags, tag: usize, terminal: u8, t: u64, n: u64) -> u8
-    requires { ⌜ t + n ≤ strip.terminals ⌝ }
-    ensures { λ r. ⌜ r ≡ cond (tagsOf present tag) (lowered t n terminal) terminal ⌝ }
-{
-    if !present.has(tag as u64) {
-        return terminal;
-    }
-    let place = terminal as u64;
-    if place < t + n {
-        return terminal;
-    }
-    (place - n) as u8
+    (place + up - down) as u8
 }
