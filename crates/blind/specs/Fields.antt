@@ -3,9 +3,9 @@
 use mathlib.Core.Bool.{false}
 use Rattle.params.specs.declared.Params.{Params}
 use Rattle.heights.specs.declared.Place.{Place}
+use Rattle.runs.specs.declared.Last.{Last}
 use Rattle.blind.specs.declared.Forced.{Forced}
 use Rattle.blind.specs.declared.Flags.{Flags}
-use Rattle.blind.specs.declared.Last.{Last}
 use Rattle.blind.specs.declared.Motion.{Motion}
 use Rattle.blind.specs.declared.Blind.{Blind}
 

@@ -4,9 +4,10 @@ use Prim.Native.Nat.{ℕ, zero, suc, _-_}
 use mathlib.Core.Bool.{cond}
 use lib.Dec.{eqb}
 use Rattle.heights.specs.declared.Direction.{Direction}
-use Rattle.heights.specs.Heights.{nextPlace, endOf}
-use Rattle.blind.specs.declared.Goal.{Goal}
-use Rattle.blind.specs.declared.Run.{Run}
+use Rattle.heights.specs.Heights.{nextPlace}
+use Rattle.runs.specs.declared.Goal.{Goal}
+use Rattle.runs.specs.declared.Run.{Run}
+use Rattle.runs.specs.Millisecond.{shorter, arrivedAt}
 use Rattle.blind.specs.declared.Motion.{Motion}
 use Rattle.blind.specs.declared.Blind.{Blind}
 use Rattle.blind.specs.Fields.{withPlace, withMotion}
@@ -18,13 +19,7 @@ moved d b = withPlace (nextPlace d (b .params) (b .place)) b
 
 -- "If it was a full run the position becomes 0 or MUDT and is valid."
 unfoldable pub arrived : Goal → Direction → Blind → Blind
-arrived Goal.Full d b = withPlace (endOf d (b .params)) b
-arrived Goal.Step d b = b
-arrived Goal.Position d b = b
-
--- The run with k milliseconds of it gone.
-unfoldable pub shorter : ℕ → Run → Run
-shorter k run = record { direction = run .direction; goal = run .goal; length = run .length - k }
+arrived goal d b = withPlace (arrivedAt goal d (b .params) (b .place)) b
 
 -- "The length falls by 1. At length 0 the motor goes off and the rest time becomes RPT."
 unfoldable pub ran : Run → Blind → Blind

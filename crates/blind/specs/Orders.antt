@@ -1,33 +1,15 @@
 -- Document 01, "Orders": what an order and a stop do, and the fresh blind.
 -- Assumes nothing.
 use Prim.Native.Nat.{ℕ}
-use mathlib.Core.Bool.{Bool, true, false, cond, not, _&&_}
-use lib.Dec.{ltb}
+use mathlib.Core.Bool.{cond}
 use Rattle.params.specs.declared.Params.{Params}
-use Rattle.heights.specs.declared.Direction.{Direction}
 use Rattle.heights.specs.Heights.{unknown}
-use Rattle.blind.specs.declared.Last.{Last}
-use Rattle.blind.specs.declared.Run.{Run}
+use Rattle.runs.specs.declared.Last.{Last}
+use Rattle.runs.specs.declared.Run.{Run}
+use Rattle.runs.specs.Orders.{lastOf, same, mustWait}
 use Rattle.blind.specs.declared.Motion.{Motion}
 use Rattle.blind.specs.declared.Blind.{Blind}
 use Rattle.blind.specs.Fields.{withLast, withMotion, noFlags}
-
--- The last direction once the motor has started in d.
-abbrev pub lastOf : Direction → Last
-lastOf Direction.Up = Last.Up
-lastOf Direction.Down = Last.Down
-
-abbrev pub same : Direction → Direction → Bool
-same Direction.Up Direction.Up = true
-same Direction.Up Direction.Down = false
-same Direction.Down Direction.Up = false
-same Direction.Down Direction.Down = true
-
--- The last direction is d.
-abbrev pub isLast : Direction → Last → Bool
-isLast d Last.Either = false
-isLast d Last.Up = same Direction.Up d
-isLast d Last.Down = same Direction.Down d
 
 -- The motor starts, and this is its last direction now. "While running the rest time is 0."
 unfoldable pub started : Run → Blind → Blind
@@ -36,7 +18,7 @@ started run b = withMotion (Motion.Runs run) (withLast (lastOf (run .direction))
 -- "Motor off: the order waits if the rest time is above 0 and the last direction isn't d; else it starts at once."
 unfoldable pub orderedOff : ℕ → Run → Blind → Blind
 orderedOff rest run b =
-    cond (ltb 0 rest && not (isLast (run .direction) (b .last)))
+    cond (mustWait rest (run .direction) (b .last))
     (withMotion (Motion.Waits rest run) b)
     (started run b)
 

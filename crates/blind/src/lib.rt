@@ -3,16 +3,10 @@
 mod millisecond;
 mod orders;
 
-use heights::Direction;
 use heights::Place;
 use params::Params;
-
-// The direction in which the motor started last; a fresh blind has either.
-pub enum Last {
-    Either,
-    Up,
-    Down,
-}
+use runs::Last;
+use runs::Run;
 
 pub enum Forced {
     No,
@@ -25,19 +19,6 @@ pub struct Flags {
     pub rain: bool,
     pub frost: bool,
     pub forced: Forced,
-}
-
-// What a run goes for. It is part of the run: a step may be as long as a full run.
-pub enum Goal {
-    Full,
-    Step,
-    Position,
-}
-
-pub struct Run {
-    pub direction: Direction,
-    pub goal: Goal,
-    pub length: u32,
 }
 
 // What the motor does. The rest time stands only where the motor is off: while it runs there is none.

@@ -3,17 +3,13 @@
 use crate::Blind;
 use crate::Flags;
 use crate::Forced;
-use crate::Last;
 use crate::Motion;
-use crate::Run;
-use heights::Direction;
 use heights::Place;
 use params::Params;
+use runs::Last;
+use runs::Run;
 ghost use mathlib.Core.Path.{_≡_};
-ghost use mathlib.Core.Bool.{not, _&&_};
-ghost use lib.Dec.{ltb};
-ghost use Rattle.blind.specs.Orders.{lastOf, isLast, same, started, orderedOff, orderedRunning, ordered};
-ghost use Rattle.blind.specs.Orders.{motorOff, stopped, freshOf};
+ghost use Rattle.blind.specs.Orders.{started, orderedOff, ordered, motorOff, stopped, freshOf};
 
 impl Blind {
     pub fn fresh(params: Params) -> Blind
@@ -41,7 +37,21 @@ impl Blind {
         match motion {
             Motion::Off(rest) => self.order_off(rest, run),
             Motion::Waits(rest, _) => self.order_off(rest, run),
-            Motion::Runs(running) => self.order_running(running, run),
+            Motion::Runs(running) => {
+                let onward = run.goes_on(running.last());
+                if onward {
+                    Blind {
+                        motion: Motion::Runs(run),
+                        ..self
+                    }
+                } else {
+                    let pause = self.params.pause();
+                    Blind {
+                        motion: Motion::Waits(pause, run),
+                        ..self
+                    }
+                }
+            }
         }
     }
 
@@ -49,7 +59,7 @@ impl Blind {
         ensures { λ r. ⌜ r ≡ orderedOff rest run self ⌝ }
     {
         let last = self.last;
-        let waits = must_wait(rest, run, last);
+        let waits = run.must_wait(rest, last);
         if waits {
             Blind {
                 motion: Motion::Waits(rest, run),
@@ -57,25 +67,6 @@ impl Blind {
             }
         } else {
             self.start(run)
-        }
-    }
-
-    fn order_running(self, running: Run, run: Run) -> Blind
-        ensures { λ r. ⌜ r ≡ orderedRunning running run self ⌝ }
-    {
-        let direction = running.direction;
-        let onward = run.goes(direction);
-        if onward {
-            Blind {
-                motion: Motion::Runs(run),
-                ..self
-            }
-        } else {
-            let pause = self.params.pause();
-            Blind {
-                motion: Motion::Waits(pause, run),
-                ..self
-            }
         }
     }
 
@@ -113,51 +104,6 @@ impl Blind {
         Blind {
             motion: Motion::Off(whole),
             ..self
-        }
-    }
-}
-
-fn must_wait(rest: u32, run: Run, last: Last) -> bool
-    ensures { λ r. ⌜ r ≡ (ltb 0 rest && not (isLast (run .direction) last)) ⌝ }
-{
-    if 0 < rest { !run.goes_on(last) } else { false }
-}
-
-impl Run {
-    fn last(self) -> Last
-        ensures { λ r. ⌜ r ≡ lastOf (self .direction) ⌝ }
-    {
-        let direction = self.direction;
-        match direction {
-            Direction::Up => Last::Up,
-            Direction::Down => Last::Down,
-        }
-    }
-
-    // Whether the run goes the way that the motor went last.
-    pub fn goes_on(self, last: Last) -> bool
-        ensures { λ r. ⌜ r ≡ isLast (self .direction) last ⌝ }
-    {
-        match last {
-            Last::Either => false,
-            Last::Up => self.goes(Direction::Up),
-            Last::Down => self.goes(Direction::Down),
-        }
-    }
-
-    fn goes(self, way: Direction) -> bool
-        ensures { λ r. ⌜ r ≡ same way (self .direction) ⌝ }
-    {
-        let direction = self.direction;
-        match way {
-            Direction::Up => match direction {
-                Direction::Up => true,
-                Direction::Down => false,
-            },
-            Direction::Down => match direction {
-                Direction::Up => false,
-                Direction::Down => true,
-            },
         }
     }
 }

@@ -4,14 +4,14 @@ use Prim.Native.Nat.{ℕ}
 use mathlib.Core.Bool.{Bool, cond}
 use mathlib.Core.List.{List, [], _∷_}
 use lib.ListN.{length, getD}
+use Rattle.runs.specs.declared.Goal.{Goal}
+use Rattle.runs.specs.declared.Last.{Last}
+use Rattle.runs.specs.declared.Run.{Run}
 use Rattle.blind.specs.declared.Blind.{Blind}
 use Rattle.heights.specs.declared.Direction.{Direction}
 use Rattle.blind.specs.declared.Flags.{Flags}
 use Rattle.blind.specs.declared.Forced.{Forced}
-use Rattle.blind.specs.declared.Goal.{Goal}
-use Rattle.blind.specs.declared.Last.{Last}
 use Rattle.blind.specs.declared.Motion.{Motion}
-use Rattle.blind.specs.declared.Run.{Run}
 use Rattle.params.specs.Numbers.{numbersOf}
 use Rattle.texts.specs.Text.{text}
 use Rattle.texts.specs.Sheet.{joined, each}

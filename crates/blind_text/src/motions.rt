@@ -1,9 +1,9 @@
 // A motion as text: the rest time, the run, and the order that waits.
-use blind::Goal;
 use blind::Motion;
-use blind::Run;
 use decimals::put_number;
 use heights::Direction;
+use runs::Goal;
+use runs::Run;
 use texts::sheets::put_text;
 ghost use mathlib.Core.Path.{_≡_};
 ghost use Rattle.texts.specs.Sheet.{sheet, puts};

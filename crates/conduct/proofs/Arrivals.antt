@@ -13,12 +13,13 @@ use Rattle.heights.specs.declared.Way.{Way}
 use Rattle.heights.specs.Heights.{withPosition, placeAfter, target, wayTo}
 use Rattle.heights.proofs.Numbers.{target-within}
 use Rattle.heights.proofs.Ways.{Leads, way-leads}
-use Rattle.blind.specs.declared.Goal.{Goal}
-use Rattle.blind.specs.declared.Run.{Run}
+use Rattle.runs.specs.declared.Goal.{Goal}
+use Rattle.runs.specs.declared.Run.{Run}
+use Rattle.runs.specs.Orders.{lastOf, isLast, same}
 use Rattle.blind.specs.declared.Motion.{Motion}
 use Rattle.blind.specs.declared.Blind.{Blind}
 use Rattle.blind.specs.Fields.{withLast}
-use Rattle.blind.specs.Orders.{lastOf, isLast, same, started, orderedOff, orderedRunning, orderedAt, ordered, motorOff, stoppedAt, stopped}
+use Rattle.blind.specs.Orders.{started, orderedOff, orderedRunning, orderedAt, ordered, motorOff, stoppedAt, stopped}
 use Rattle.blind.specs.Millisecond.{arrived, milliseconds}
 use Rattle.blind.proofs.AtOnce.{movedBy}
 use Rattle.sound_blind.specs.Sound.{Sound}

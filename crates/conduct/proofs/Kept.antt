@@ -6,11 +6,12 @@ use mathlib.Core.Bool.{not, _&&_}
 use lib.Dec.{ltb}
 use Rattle.laws.proofs.Choices.{cond-has}
 use Rattle.heights.specs.declared.Way.{Way}
-use Rattle.blind.specs.declared.Run.{Run}
+use Rattle.runs.specs.declared.Run.{Run}
+use Rattle.runs.specs.Orders.{isLast, same}
 use Rattle.blind.specs.declared.Motion.{Motion}
 use Rattle.blind.specs.declared.Blind.{Blind}
 use Rattle.blind.specs.Fields.{withFlags}
-use Rattle.blind.specs.Orders.{isLast, same, started, orderedOff, orderedRunning, orderedAt, ordered, motorOff, stoppedAt, stopped}
+use Rattle.blind.specs.Orders.{started, orderedOff, orderedRunning, orderedAt, ordered, motorOff, stoppedAt, stopped}
 use Rattle.inputs.specs.declared.Aim.{Aim}
 use Rattle.inputs.specs.declared.Command.{Command}
 use Rattle.inputs.specs.Inputs.{mud, steps, ssud, towards, aimed, followed, sapbp, acted}

@@ -12,14 +12,16 @@ use borrow.Author.Tests.{ltb-false, eqb-true}
 use Rattle.laws.proofs.Choices.{cond-has, never-both}
 use Rattle.heights.specs.declared.Direction.{Direction}
 use Rattle.heights.specs.declared.Way.{Way}
-use Rattle.blind.specs.declared.Last.{Last}
-use Rattle.blind.specs.declared.Goal.{Goal}
-use Rattle.blind.specs.declared.Run.{Run}
+use Rattle.runs.specs.declared.Last.{Last}
+use Rattle.runs.specs.declared.Goal.{Goal}
+use Rattle.runs.specs.declared.Run.{Run}
+use Rattle.runs.specs.Orders.{lastOf, isLast, same}
+use Rattle.runs.specs.Millisecond.{shorter}
 use Rattle.blind.specs.declared.Motion.{Motion}
 use Rattle.blind.specs.declared.Blind.{Blind}
 use Rattle.blind.specs.Fields.{withFlags, withMotion}
-use Rattle.blind.specs.Orders.{lastOf, isLast, same, started, orderedOff, orderedRunning, orderedAt, ordered, motorOff, stoppedAt, stopped}
-use Rattle.blind.specs.Millisecond.{moved, arrived, shorter, ran, waited, millisecondAt, millisecond}
+use Rattle.blind.specs.Orders.{started, orderedOff, orderedRunning, orderedAt, ordered, motorOff, stoppedAt, stopped}
+use Rattle.blind.specs.Millisecond.{moved, arrived, ran, waited, millisecondAt, millisecond}
 use Rattle.outputs.specs.Reports.{command, motorAt, motorOf}
 use Rattle.sound_blind.specs.Sound.{SoundMotion, SoundRunning, Sound}
 use Rattle.inputs.specs.declared.Aim.{Aim}

@@ -12,14 +12,16 @@ use Rattle.params.specs.Parameters.{SoundParams}
 use Rattle.heights.specs.declared.Direction.{Direction}
 use Rattle.heights.specs.Heights.{bottom}
 use Rattle.heights.proofs.Ways.{next-within, end-within}
-use Rattle.blind.specs.declared.Goal.{Goal}
+use Rattle.runs.specs.declared.Goal.{Goal}
+use Rattle.runs.specs.declared.Run.{Run}
+use Rattle.runs.specs.Orders.{lastOf, isLast, same}
+use Rattle.runs.specs.Millisecond.{shorter}
 use Rattle.blind.specs.declared.Flags.{Flags}
-use Rattle.blind.specs.declared.Run.{Run}
 use Rattle.blind.specs.declared.Motion.{Motion}
 use Rattle.blind.specs.declared.Blind.{Blind}
 use Rattle.blind.specs.Fields.{withFlags, withMotion}
-use Rattle.blind.specs.Orders.{lastOf, isLast, same, started, orderedOff, orderedRunning, orderedAt, ordered, motorOff, stoppedAt, stopped, freshOf}
-use Rattle.blind.specs.Millisecond.{moved, arrived, shorter, ran, waited, millisecondAt, millisecond, milliseconds}
+use Rattle.blind.specs.Orders.{started, orderedOff, orderedRunning, orderedAt, ordered, motorOff, stoppedAt, stopped, freshOf}
+use Rattle.blind.specs.Millisecond.{moved, arrived, ran, waited, millisecondAt, millisecond, milliseconds}
 use Rattle.sound_blind.specs.Sound.{SoundRun, Whole, SoundWait, SoundRunning, SoundMotion, Sound, longest}
 use Rattle.sound_blind.proofs.Decides.{last-decides}
 

@@ -10,15 +10,17 @@ use mathlib.Core.List.{List}
 use lib.Dec.{eqb}
 use Rattle.heights.specs.declared.Direction.{Direction}
 use Rattle.heights.specs.Heights.{endOf}
-use Rattle.blind.specs.declared.Goal.{Goal}
-use Rattle.blind.specs.declared.Last.{Last}
+use Rattle.runs.specs.declared.Goal.{Goal}
+use Rattle.runs.specs.declared.Last.{Last}
+use Rattle.runs.specs.declared.Run.{Run}
+use Rattle.runs.specs.Orders.{lastOf}
+use Rattle.runs.specs.Millisecond.{shorter}
 use Rattle.blind.specs.declared.Flags.{Flags}
-use Rattle.blind.specs.declared.Run.{Run}
 use Rattle.blind.specs.declared.Motion.{Motion}
 use Rattle.blind.specs.declared.Blind.{Blind}
 use Rattle.blind.specs.Fields.{withFlags, withLast, withMotion}
-use Rattle.blind.specs.Orders.{lastOf, started, motorOff}
-use Rattle.blind.specs.Millisecond.{moved, arrived, shorter, ran, waited, millisecondAt, millisecond, milliseconds}
+use Rattle.blind.specs.Orders.{started, motorOff}
+use Rattle.blind.specs.Millisecond.{moved, arrived, ran, waited, millisecondAt, millisecond, milliseconds}
 use Rattle.blind.proofs.Cutting.{one-first, cut}
 use Rattle.blind.proofs.AtOnce.{waiting, wait-over, movedBy, running, run-over}
 use Rattle.sound_blind.specs.Sound.{SoundMotion, Sound}

@@ -2,7 +2,6 @@
 -- Assumes nothing.
 use Prim.Native.Nat.{ℕ}
 use mathlib.Core.Path.{_≡_, refl, sym, ap, _∙_}
-use mathlib.Core.List.{List}
 use mathlib.Core.Option.{some, Option·map}
 use Rattle.answers.proofs.Rules.{leaves-has}
 use Rattle.blind.specs.declared.Blind.{Blind}

@@ -8,16 +8,16 @@ use mathlib.Core.Path.{_≡_, refl, sym, ap, ap₂, _∙_, subst}
 use mathlib.Core.Bool.{Bool, true, false, cond}
 use mathlib.Core.List.{List, [], _∷_, _++_}
 use mathlib.Core.Option.{Option, none, some, Option·map}
-use lib.Dec.{eqb, ltb}
+use lib.Dec.{eqb}
 use borrow.Author.Tests.{eqb-true, ltb-false}
 use Rattle.laws.proofs.Choices.{cond-has, never-both}
 use Rattle.answers.specs.Answers.{refusal}
 use Rattle.answers.specs.Rules.{Result}
 use Rattle.answers.proofs.Rules.{answer-is, refused, leaves-has}
 use Rattle.heights.specs.declared.Direction.{Direction}
+use Rattle.runs.specs.Orders.{isLast}
 use Rattle.blind.specs.declared.Motion.{Motion}
 use Rattle.blind.specs.declared.Blind.{Blind}
-use Rattle.blind.specs.Orders.{isLast}
 use Rattle.blind.specs.Millisecond.{millisecond, milliseconds}
 use Rattle.outputs.specs.Reports.{busyAt, busy}
 use Rattle.sound_blind.specs.Sound as ofBlind
@@ -27,10 +27,10 @@ use Rattle.rules.specs.Edits.{rewritten}
 use Rattle.conduct.proofs.SoundCourses.{heeded-sound, input-of-class}
 use Rattle.conduct.proofs.Owed.{owed, owedAt, heeded-keeps}
 use Rattle.link.specs.declared.Link.{Link}
-use Rattle.panel.specs.Panel.{Seat, Model, presentIn, isThere, reseated, eachSeat, onBlind}
+use Rattle.panel.specs.Panel.{Seat, Model, presentIn, isThere, eachSeat, onBlind}
 use Rattle.panel.specs.Sound.{Sound, Fine}
 use Rattle.panel.specs.Calls.{Cells}
-use Rattle.time_steps.specs.TimeSteps.{afterStep, stepRule}
+use Rattle.time_steps.specs.TimeSteps.{afterStep}
 use Rattle.tags.specs.Tags.{places}
 use Rattle.panel.proofs.Checks.{lent-passed}
 use Rattle.telegrams.specs.Telegrams.{isOutside, linkChecks, telegramRule}
@@ -43,8 +43,8 @@ use Rattle.params.specs.Numbers.{paramsOf}
 use Rattle.edits.specs.Edits.{seatRewritten, installRule, writeRule}
 use Rattle.edits.proofs.Passed.{installable, writable}
 use Rattle.demands.specs.Calls.{Call, telegram, timeStep, strip, install, removeBlind, writeParams, addLink, removeLink, spliceIn, spliceOut, inventory, ruleOf, does}
-use Rattle.demands.specs.Runs.{Turn, Run, Each, gives, lasts, lasting}
-use Rattle.demands.specs.Demand2.{Moment, pauseIn, momentOf, moments, trace, Stays, Paused}
+use Rattle.demands.specs.Runs.{Run, Each, gives, lasts, lasting}
+use Rattle.demands.specs.Demand2.{Moment, pauseIn, moments, trace, Stays, Paused}
 use Rattle.demands.proofs.Seats.{seat-of, reseated-blind}
 use Rattle.demands.proofs.Soundness.{kept-fine}
 use Rattle.demands.proofs.Alike.{spared, add-blind, remove-link-blind}

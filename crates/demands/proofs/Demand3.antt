@@ -11,7 +11,7 @@ use Rattle.panel.specs.Sound.{Fine}
 use Rattle.panel.specs.Calls.{Cells}
 use Rattle.seats.specs.Untouched.{blindAt}
 use Rattle.demands.specs.Calls.{Call, telegram, timeStep, strip, install, removeBlind, writeParams, addLink, removeLink, spliceIn, spliceOut, inventory, does}
-use Rattle.demands.specs.Runs.{Turn, gives, after, reportIn, reportOf, reportsOf}
+use Rattle.demands.specs.Runs.{gives, after, reportIn, reportOf, reportsOf}
 use Rattle.demands.specs.Demand3.{Spares, OfTheRun, told, passed, Step, own, inserted, whole, without, SameRun}
 use Rattle.demands.proofs.MotorSeen.{motor-seen}
 use Rattle.demands.proofs.Alike.{Alike, insert-alike}

@@ -12,14 +12,13 @@ use lib.ListN.{length}
 use lib.Dec.{eqb, ltb}
 use borrow.Author.Tests.{eq-eqb, ne-eqb}
 use Rattle.answers.specs.Answers.{refusal}
-use Rattle.answers.specs.Rules.{Result, carried}
+use Rattle.answers.specs.Rules.{Result}
 use Rattle.answers.proofs.Rules.{answer-is}
 use Rattle.tags.specs.Tags.{places}
 use Rattle.blind.specs.declared.Blind.{Blind}
 use Rattle.blind.specs.Millisecond.{milliseconds}
 use Rattle.outputs.specs.Reports.{report}
 use Rattle.link.specs.declared.Link.{Link}
-use Rattle.table.specs.Links.{linksTo}
 use Rattle.panel.specs.Panel.{Model}
 use Rattle.panel.specs.Sound.{Sound}
 use Rattle.panel.specs.Calls.{Cells, lentChecks}

@@ -8,7 +8,7 @@ use mathlib.Core.Bool.{Bool, true, false, not, _||_, true≢false}
 use lib.Dec.{eqb}
 use borrow.Author.Tests.{eq-eqb}
 use Rattle.laws.specs.Every.{every}
-use Rattle.answers.specs.Answers.{Check, refusal}
+use Rattle.answers.specs.Answers.{refusal}
 use Rattle.answers.proofs.Refusals.{refusal-has}
 use Rattle.answers.proofs.Rules.{answer-is, leaves-has}
 use Rattle.panel.specs.Panel.{Model, eachSeat}

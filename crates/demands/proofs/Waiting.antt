@@ -7,8 +7,8 @@ use mathlib.Core.Bool.{Bool, true, false, cond}
 use mathlib.Core.List.{List, [], _∷_}
 use mathlib.Core.Option.{some}
 use lib.Dec.{eqb}
+use Rattle.runs.specs.declared.Run as ofRuns
 use Rattle.blind.specs.declared.Flags.{Flags}
-use Rattle.blind.specs.declared.Run as ofBlind
 use Rattle.blind.specs.declared.Motion.{Motion}
 use Rattle.blind.specs.declared.Blind.{Blind}
 use Rattle.blind.specs.Fields.{withFlags, withMotion}
@@ -28,9 +28,8 @@ use Rattle.panel.specs.Calls.{Cells}
 use Rattle.telegrams.specs.Locality.{reached, heardBy}
 use Rattle.seats.specs.Untouched.{blindAt}
 use Rattle.demands.specs.Calls.{Call, telegram, timeStep, strip, install, removeBlind, writeParams, addLink, removeLink, spliceIn, spliceOut, inventory, does}
-use Rattle.demands.specs.Runs.{Turn, Run, Each, after, gives, lasting, duration, motorSeen}
+use Rattle.demands.specs.Runs.{Run, Each, after, gives, lasting, duration, motorSeen}
 use Rattle.demands.specs.Demand2.{Unheeded, QuietCall, Quiet}
-use Rattle.demands.specs.Demand3.{Spares}
 use Rattle.demands.proofs.MotorSeen.{motor-seen}
 use Rattle.demands.proofs.Soundness.{kept-fine}
 use Rattle.demands.proofs.Alike.{spared}
@@ -125,7 +124,7 @@ quiet-ends tag (turn ∷ run) b m fine here quiet =
           ∙ ap (λ (x : Blind). some (withFlags (ends .flags) x)) (sym (cut k j b));
     }
 
-module _ (tag : ℕ) (run : Run) (b : Blind) (m : Model) (fine : Fine m) (here : blindAt tag m ≡ some b) (rest : ℕ) (order : ofBlind.Run)
+module _ (tag : ℕ) (run : Run) (b : Blind) (m : Model) (fine : Fine m) (here : blindAt tag m ≡ some b) (rest : ℕ) (order : ofRuns.Run)
     (waits : b .motion ≡ Motion.Waits rest order) (quiet : Each (Quiet tag) run m) where
   motor-then : motorSeen tag (after run m) ≡ motorAt (milliseconds (duration run m) (withMotion (Motion.Waits rest order) b) .motion)
   unfolding motorOf

@@ -10,12 +10,12 @@ use Rattle.laws.specs.Fills.{tabulate}
 use Rattle.laws.specs.Every.{every}
 use Rattle.tags.specs.Tags.{places}
 use Rattle.heights.specs.declared.Direction.{Direction}
+use Rattle.runs.specs.declared.Last.{Last}
+use Rattle.runs.specs.Orders.{same}
 use Rattle.blind.specs.declared.Forced.{Forced}
-use Rattle.blind.specs.declared.Last.{Last}
 use Rattle.blind.specs.declared.Motion.{Motion}
 use Rattle.blind.specs.declared.Blind.{Blind}
 use Rattle.params.specs.Parameters.{defaults}
-use Rattle.blind.specs.Orders.{same}
 use Rattle.answers.specs.Rules.{Result}
 use Rattle.panel.specs.Calls.{Cells, row}
 use Rattle.panel.specs.Panel.{Seat, Model, bare}

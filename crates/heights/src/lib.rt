@@ -31,14 +31,14 @@ const VALID: u64 = 256;
 pub fn full_time(direction: Direction, params: Params) -> u32
     ensures { λ r. ⌜ r ≡ fullTime direction params ⌝ }
 {
-    params.mudt
+    params.mudt // the same up and down
 }
 
 // The position of the lower end; the upper end is 0.
 pub fn bottom(params: Params) -> u32
     ensures { λ r. ⌜ r ≡ bottom params ⌝ }
 {
-    params.mudt
+    params.mudt // a running millisecond is one of height
 }
 
 // Where a full run ends.

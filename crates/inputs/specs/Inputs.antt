@@ -7,8 +7,8 @@ use Rattle.params.specs.declared.Params.{Params}
 use Rattle.heights.specs.declared.Direction.{Direction}
 use Rattle.heights.specs.declared.Way.{Way}
 use Rattle.heights.specs.Heights.{fullTime, target, wayTo}
-use Rattle.blind.specs.declared.Goal.{Goal}
-use Rattle.blind.specs.declared.Run.{Run}
+use Rattle.runs.specs.declared.Goal.{Goal}
+use Rattle.runs.specs.declared.Run.{Run}
 use Rattle.blind.specs.declared.Motion.{Motion}
 use Rattle.blind.specs.declared.Blind.{Blind}
 use Rattle.blind.specs.Orders.{ordered, stopped}

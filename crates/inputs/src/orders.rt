@@ -3,14 +3,14 @@
 use crate::Aim;
 use crate::Command;
 use blind::Blind;
-use blind::Goal;
 use blind::Motion;
-use blind::Run;
 use heights::Direction;
 use heights::Way;
 use heights::full_time;
 use heights::target;
 use params::Params;
+use runs::Goal;
+use runs::Run;
 ghost use mathlib.Core.Path.{_≡_};
 ghost use Rattle.inputs.specs.Inputs.{fullRun, step, mud, isStep, steps, ssud, towards, aimedBetween, aimed, followed, sapbp, acted};
 

@@ -2,8 +2,8 @@
 // reports after a call. Nothing here changes a blind.
 use blind::Blind;
 use blind::Motion;
-use blind::Run;
 use heights::Direction;
+use runs::Run;
 ghost use mathlib.Core.Path.{_≡_};
 ghost use mathlib.Core.Bool.{cond};
 ghost use Rattle.outputs.specs.Reports.{command, motorOf, active, busy, noReport, report};

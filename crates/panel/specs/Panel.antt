@@ -6,11 +6,11 @@ use mathlib.Core.List.{[]}
 use mathlib.Core.Option.{Option, none, some, Option·map}
 use lib.ListN.{getD}
 use lib.Dec.{eqb}
+use Rattle.runs.specs.declared.Last.{Last}
 use Rattle.blind.specs.declared.Blind.{Blind}
 use Rattle.params.specs.Parameters.{noParams}
 use Rattle.heights.specs.Heights.{unknown}
 use Rattle.blind.specs.Fields.{noFlags}
-use Rattle.blind.specs.declared.Last.{Last}
 use Rattle.blind.specs.declared.Motion.{Motion}
 use Rattle.tags.specs.Tags.{TagSet, tagsOf}
 use Rattle.table.specs.Links.{Held, heldOf, holding}

@@ -1,8 +1,8 @@
 -- The test of soundness decides the statement, clause by clause.
 -- Assumes nothing.
-use Prim.Native.Nat.{ℕ, _≤_, _<_}
+use Prim.Native.Nat.{ℕ}
 use mathlib.Core.Path.{_≡_, refl, sym, ap, _∙_}
-use mathlib.Core.Bool.{Bool, true}
+use mathlib.Core.Bool.{true}
 use Rattle.laws.specs.Decides.{Decides}
 use Rattle.laws.proofs.Choices.{never-both}
 use Rattle.laws.proofs.Deciding.{le, lt, eq, always, and, neither, said}
@@ -10,12 +10,12 @@ use Rattle.params.specs.declared.Params.{Params}
 use Rattle.params.proofs.Ranges.{params-decide}
 use Rattle.heights.specs.declared.Direction.{Direction}
 use Rattle.heights.specs.Heights.{fullTime, bottom}
-use Rattle.blind.specs.declared.Last.{Last}
-use Rattle.blind.specs.declared.Goal.{Goal}
-use Rattle.blind.specs.declared.Run.{Run}
+use Rattle.runs.specs.declared.Last.{Last}
+use Rattle.runs.specs.declared.Goal.{Goal}
+use Rattle.runs.specs.declared.Run.{Run}
+use Rattle.runs.specs.Orders.{lastOf, isLast}
 use Rattle.blind.specs.declared.Motion.{Motion}
 use Rattle.blind.specs.declared.Blind.{Blind}
-use Rattle.blind.specs.Orders.{lastOf, isLast}
 use Rattle.sound_blind.specs.Sound.{SoundRun, WholeOf, SoundWait, SoundRunning, SoundMotion, Sound}
 use Rattle.sound_blind.specs.Sound.{longest, soundRun, wholeOf, soundWait, soundRunning, soundMotion, sound}
 

@@ -8,12 +8,12 @@ use Rattle.params.specs.declared.Params.{Params}
 use Rattle.params.specs.Parameters.{SoundParams, inRange}
 use Rattle.heights.specs.declared.Direction.{Direction}
 use Rattle.heights.specs.Heights.{fullTime, bottom}
-use Rattle.blind.specs.declared.Last.{Last}
-use Rattle.blind.specs.declared.Goal.{Goal}
-use Rattle.blind.specs.declared.Run.{Run}
+use Rattle.runs.specs.declared.Last.{Last}
+use Rattle.runs.specs.declared.Goal.{Goal}
+use Rattle.runs.specs.declared.Run.{Run}
+use Rattle.runs.specs.Orders.{lastOf, isLast}
 use Rattle.blind.specs.declared.Motion.{Motion}
 use Rattle.blind.specs.declared.Blind.{Blind}
-use Rattle.blind.specs.Orders.{lastOf, isLast}
 
 -- How long a run of this goal may be.
 abbrev pub longestOf : Params → Direction → Goal → ℕ

@@ -1,12 +1,12 @@
 // Document 01, "Sound", as far as it speaks of one blind: when a blind is sound, as a test of any contents.
 use blind::Blind;
-use blind::Goal;
-use blind::Last;
 use blind::Motion;
-use blind::Run;
 use heights::bottom;
 use heights::full_time;
 use params::Params;
+use runs::Goal;
+use runs::Last;
+use runs::Run;
 ghost use mathlib.Core.Path.{_≡_};
 ghost use Rattle.sound_blind.specs.Sound.{longest, soundRun, whole, soundWait, soundRunning, soundMotion, sound};
 

@@ -1,6 +1,5 @@
 -- `direction_of`: whether the value is 0 picks the side of the choice.
 -- Assumes nothing.
-use borrow.Author.Needs.{needs}
 use borrow.Author.Tests.{ne-eqb}
 use Rattle.rules.proofs.telegrams.direction_of.Statement.{statement}
 use Rattle.rules.proofs.telegrams.direction_of.Tie as tie

@@ -1,9 +1,9 @@
--- `must_wait`: whether the rest time is above 0 decides the first part of the test, `goes_on` the second.
+-- `Run::must_wait`: whether the rest time is above 0 decides the first part of the test, `goes_on` the second.
 -- Assumes nothing.
 use borrow.Author.Needs.{needs}
 use borrow.Author.Tests.{le-ltb, lt-ltb}
-use Rattle.blind.proofs.orders.must_wait.Statement.{statement}
-use Rattle.blind.proofs.orders.must_wait.Tie as tie
+use Rattle.runs.proofs.Run.must_wait.Statement.{statement}
+use Rattle.runs.proofs.Run.must_wait.Tie as tie
 
 pub must-wait-spec : {M : Type 1} → statement M
 must-wait-spec =
