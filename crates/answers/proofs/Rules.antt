@@ -48,9 +48,12 @@ module _ {M C : Type 0} (rule : Rule M C) (m : M) (cells : C) where
       go true e = new (eqb-true (refusal (rule .checks m cells)) 0 e)
       go false e = old
 
-  -- what a function shows that refuses
+  -- what a function shows that refuses: by a number that is not 0, and by one of the table
+  pub refuse-with : {n : ℕ} → (n ≡ 0 → ⊥) → refusal (rule .checks m cells) ≡ n → refusedBy n m cells ≡ carried rule m cells
+  refuse-with some e = ap (λ (k : ℕ). refusedBy k m cells) (sym e) ∙ sym (carried-refused (λ z. some (sym e ∙ z)))
+
   pub refuse : {n : ℕ} → refusal (rule .checks m cells) ≡ suc n → refusedBy (suc n) m cells ≡ carried rule m cells
-  refuse e = ap (λ (k : ℕ). refusedBy k m cells) (sym e) ∙ sym (carried-refused (λ z. omega (arith, sym e ∙ z)))
+  refuse e = refuse-with (λ z. omega arith) e
 
   -- and one that does its work
   pub accept : {count second : ℕ} {left : M} {filled : C} → refusal (rule .checks m cells) ≡ 0 → count ≡ rule .count m → second ≡ rule .second m

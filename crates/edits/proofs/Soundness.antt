@@ -1,24 +1,24 @@
 -- Each accepted edit of a blind leaves a sound panel whose table has as many links as it says. Assumes nothing.
 use Prim.Native.Nat.{ℕ, _+_, _<_}
 use native.Mathlib.Omega.{arith}
-use mathlib.Core.Path.{_≡_, refl, sym, ap, _∙_, subst}
-use mathlib.Core.Bool.{Bool, true, false, cond, not}
+use mathlib.Core.Path.{_≡_, refl, sym, _∙_, subst}
+use mathlib.Core.Bool.{Bool, true, false, cond}
 use mathlib.Core.List.{List, [], _∷_}
 use mathlib.Core.Option.{Option, Option·map}
 use lib.ListN.{length, getD}
 use borrow.Author.Tests.{eqb-false, not-true}
 use Rattle.answers.specs.Answers.{refusal}
-use Rattle.answers.proofs.Refusals.{passed-by, none-left, answers}
+use Rattle.answers.proofs.Refusals.{none-left}
 use Rattle.conduct.proofs.SoundMotions.{fresh-sound}
 use Rattle.conduct.proofs.SoundCourses.{rewritten-sound}
 use Rattle.laws.specs.Kept.{kept}
 use Rattle.table.specs.Links.{holding}
 use Rattle.link.specs.Link.{nothing}
-use Rattle.table.specs.Sound as ofLinks
-use Rattle.links.specs.Edits.{dropped, tagLinks, tagRemoved, stays}
+use Rattle.links.specs.Edits.{dropped, tagLinks, tableDrop, stays}
 use Rattle.laws.proofs.Each.{Each, none, more, each-at}
 use Rattle.table.proofs.Sound.{sound-decided}
-use Rattle.links.proofs.Leaves.{tag-leaves}
+use Rattle.links.proofs.Calls.{own-checks}
+use Rattle.links.proofs.Leaves.{drop-leaves}
 use Rattle.links.proofs.Untouched.{each-dropped}
 use Rattle.panel.specs.Panel.{Seat, Model, reseated, relinked}
 use Rattle.panel.specs.Sound.{Sound, Fine}
@@ -76,17 +76,15 @@ module _ (m : Model) (cells : Cells) (f : Fine m) (tag : ℕ) where
 
 -- the links of the tag go with it, so the table is another one
 pub remove-keeps : (m : Model) (cells : Cells) → Fine m → (tag : ℕ) → refusal (removeRule tag .checks m cells) ≡ 0 → Fine (removeRule tag .leaves m)
-unfolding removeRule reseated dropped tagRemoved
+unfolding removeRule reseated dropped tableDrop
 remove-keeps m cells f tag e =
     let ok : Removable tag m cells = removable tag m cells e in
-    let by-table : tagRemoved tag (m .table) .answer ≡ 0 =
-    answers _ _ _ _ ∙ passed-by (not (ofLinks.isSound (m .table))) 12 [] (ap not (table-sound m (ok .sound))) ∙ none-left in
-    let left = tag-leaves (m .table) (f .full) tag by-table in
+    let by-table : refusal (tableDrop tag .checks (m .table) tt) ≡ 0 = own-checks (m .table) [] (table-sound m (ok .sound)) ∙ none-left in
     record {
       sound =
           gone-sound tag (relinked (holding (tagLinks tag (m .table))) m)
           (links-sound (holding (tagLinks tag (m .table))) m (f .sound)
-          (sound-decided (holding (tagLinks tag (m .table))) .0 (ap ofLinks.isSound (sym (left .1)) ∙ left .0))
+          (sound-decided (holding (tagLinks tag (m .table))) .0 (drop-leaves (m .table) (f .full) tag by-table))
           (λ i h. each-at (tagLinks tag (m .table)) nothing i h (each-dropped (m .table .links) (named m (f .sound)) tag)))
           gone;
       full = refl;

@@ -8,8 +8,10 @@ use mathlib.Core.List.{List, [], _∷_}
 use mathlib.Core.Option.{Option, none, some, Option·map}
 use lib.ListN.{length, getD, set}
 use lib.Dec.{eqb}
-use Rattle.answers.specs.Answers.{first, refusal, Outcome}
-use Rattle.answers.proofs.Refusals.{answers, done, none-left, passed-by}
+use Rattle.answers.specs.Answers.{first, refusal}
+use Rattle.answers.specs.Rules.{Result, doneBy}
+use Rattle.answers.proofs.Refusals.{none-left}
+use Rattle.answers.proofs.Rules.{carried-done, answer-is}
 use Rattle.blind.specs.declared.Blind.{Blind}
 use Rattle.params.specs.declared.Params.{Params}
 use Rattle.outputs.specs.Reports.{busy}
@@ -19,7 +21,8 @@ use Rattle.tags.specs.Tags.{tagsOf, taken}
 use Rattle.links.specs.declared.Edited.{Edited}
 use Rattle.table.specs.Links.{Held, heldOf, holding}
 use Rattle.table.specs.Sound as ofLinks
-use Rattle.links.specs.Edits.{tagMoved, tagLinks, tagRemoved, editedOf}
+use Rattle.links.specs.Edits.{tagMoved, tagLinks, tableDrop, edited as tableEdited, editedOf}
+use Rattle.links.proofs.Calls.{own-checks}
 use Rattle.panel.specs.declared.Panel.{Panel}
 use Rattle.panel.specs.Panel.{Seat, Model, nobody, placeOf, seatsOf, modelOf, isThere, presentIn, reseated, relinked}
 use Rattle.panel.specs.Fields.{withPresent, withBlinds, withTable}
@@ -43,19 +46,19 @@ named-told p tag = go (tagsOf (p .present) tag)
 
 -- ---- remove blind
 
-module _ (tag : ℕ) (edited : Edited) (h : Held) (told : editedOf edited ≡ tagRemoved tag h) where
+module _ (tag : ℕ) (edited : Edited) (h : Held) (told : editedOf edited ≡ tableEdited (tableDrop tag) h) where
   -- the table's own edit answers 12 exactly for a table that is not sound
   pub tag-sound-told : not (eqb (edited .answer) 12) ≡ ofLinks.isSound h
-  unfolding tagRemoved first
-  tag-sound-told = table-told h [] (λ e. absurd (omega (arith, e))) (ap (λ (o : Outcome Held). o .answer) told ∙ answers _ _ _ _)
+  unfolding tableDrop first
+  tag-sound-told = table-told h [] (λ e. absurd (omega (arith, e))) (ap (λ (r : Result Held (Unit {0})). r .answer) told ∙ answer-is (tableDrop tag) h tt)
 
   -- and else it is done
   pub tag-done-told : ofLinks.isSound h ≡ true → (edited .moved ≡ tagMoved tag h) × (heldOf (edited .table) ≡ holding (tagLinks tag h))
-  unfolding tagRemoved
+  unfolding tableDrop
   tag-done-told sound =
-      let all : editedOf edited ≡ record { answer = 0; count = tagMoved tag h; leaves = holding (tagLinks tag h) } =
-      told ∙ done _ _ _ _ (passed-by (not (ofLinks.isSound h)) 12 [] (ap not sound) ∙ none-left) in
-      (ap (λ (o : Outcome Held). o .count) all, ap (λ (o : Outcome Held). o .leaves) all)
+      let all : editedOf edited ≡ doneBy (tableDrop tag) h tt =
+      told ∙ carried-done (tableDrop tag) h tt (own-checks h [] sound ∙ none-left) in
+      (ap (λ (r : Result Held (Unit {0})). r .count) all, ap (λ (r : Result Held (Unit {0})). r .leaves) all)
 
 -- the blind's links and its tag are taken out
 pub taken-out : (p : Panel) (tag : ℕ) (present : Tags) (edited : Edited) → tagsOf present ≡ taken tag (tagsOf (p .present))

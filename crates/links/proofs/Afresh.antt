@@ -7,12 +7,14 @@ use mathlib.Core.Bool.{true, false}
 use mathlib.Core.List.{List, [], _∷_, _++_, List·Permᴰ, List·Permᴰ·nil, List·Permᴰ·cons, List·Permᴰ·swap, List·Permᴰ·trans, Permᴰ·symm, Permᴰ·append-left, Permᴰ·middle, append-nil}
 use lib.ListN.{length, length-append}
 use lib.Seq.{append-snoc}
-use Rattle.answers.specs.Answers.{Outcome}
+use Rattle.answers.specs.Answers.{refusal}
+use Rattle.answers.specs.Rules.{Result, doneBy}
+use Rattle.answers.proofs.Rules.{carried-done}
 use Rattle.link.specs.declared.Link.{Link}
 use Rattle.link.specs.Link.{keyOf}
 use Rattle.table.specs.Links.{Held, holding}
 use Rattle.table.specs.Sound.{most, isSound}
-use Rattle.links.specs.Edits.{isIn, inserted, moved, addLinks, added, removeLinks, removed, tagLinks, tagRemoved}
+use Rattle.links.specs.Edits.{isIn, inserted, addLinks, addChecks, tableAdd, removeLinks, tableRemove, tagLinks, tableDrop, edited}
 use Rattle.links.specs.Afresh.{addedAll, AllAccepted, Afresh}
 use Rattle.laws.proofs.Each.{Each, first, rest, Pairs, each-map, each-right, each-perm, pairs-before, pairs-both, pairs-map, pairs-perm, pairs-right}
 use Rattle.table.proofs.Ranks.{Asc}
@@ -21,8 +23,8 @@ use Rattle.link.proofs.Ranges.{InRange, range-holds}
 use Rattle.table.proofs.Sound.{Fine, sound-reads, sound-holds}
 use Rattle.link.proofs.Neighbours.{Agree}
 use Rattle.links.proofs.Classes.{no-other-class}
-use Rattle.links.proofs.Calls.{judged-done, added-done}
-use Rattle.links.proofs.Leaves.{add-leaves, remove-leaves, tag-leaves}
+use Rattle.links.proofs.Calls.{own-checks, judged-done}
+use Rattle.links.proofs.Leaves.{add-leaves, remove-leaves, drop-leaves}
 
 -- two links that can stand in one table
 abbrev Apart : Link → Link → Type 0
@@ -75,10 +77,12 @@ record Ready (order acc : List Link) : Type 0 where
 
 -- one link more: it is accepted
 one-more : (l : Link) (order acc : List Link) → Ready (l ∷ order) acc
-    → (added l (holding acc) .answer ≡ 0) × (added l (holding acc) .leaves ≡ holding (inserted keyOf l acc)) × Ready order (inserted keyOf l acc)
+    → (edited (tableAdd l) (holding acc) .answer ≡ 0) × (edited (tableAdd l) (holding acc) .leaves ≡ holding (inserted keyOf l acc))
+    × Ready order (inserted keyOf l acc)
+unfolding tableAdd
 one-more l order acc r = (
-  ap (λ (o : Outcome Held). o .answer) outcome,
-  ap (λ (o : Outcome Held). o .leaves) outcome,
+  ap (λ (r : Result Held (Unit {0})). r .answer) outcome,
+  ap (λ (r : Result Held (Unit {0})). r .leaves) outcome,
   record {
     ranged = each-perm moved-on (r .ranged);
     apart = pairs-perm Apart apart-back moved-on (r .apart);
@@ -107,11 +111,12 @@ one-more l order acc r = (
     sound : isSound (holding acc) ≡ true
     sound = sound-holds (holding acc) (omega (arith, r .few, length-append order acc)) fine
 
-    outcome : added l (holding acc) ≡ record { answer = 0; count = moved keyOf acc (inserted keyOf l acc); leaves = holding (inserted keyOf l acc) }
+    outcome : edited (tableAdd l) (holding acc) ≡ doneBy (tableAdd l) (holding acc) tt
     outcome =
-        added-done (holding acc) l sound
-        (judged-done (holding acc) l (range-holds l (first (r .ranged))) new (no-other-class l acc (each-map (λ y a. a .1) others))
-        (omega (arith, r .few, length-append order acc)))
+        carried-done (tableAdd l) (holding acc) tt
+        (own-checks (holding acc) (addChecks l (holding acc)) sound
+        ∙ sym (judged-done (holding acc) l (range-holds l (first (r .ranged))) new (no-other-class l acc (each-map (λ y a. a .1) others))
+        (omega (arith, r .few, length-append order acc))))
 
 all-accepted : (order acc : List Link) → Ready order acc
     → AllAccepted order (holding acc) × (addedAll order (holding acc) ≡ holding (insertedAll order acc))
@@ -155,18 +160,14 @@ afresh ls order sound perm =
 
 -- the table that an accepted edit leaves is the one that its links give afresh, in any order
 module _ (h : Held) (full : length (h .links) ≡ h .count) (order : List Link) where
-  pub add-afresh : (l : Link) → added l h .answer ≡ 0 → List·Permᴰ order (l ∷ h .links) → Afresh order (added l h .leaves)
-  add-afresh l e perm =
-      let left : (isSound (added l h .leaves) ≡ true) × (added l h .leaves ≡ holding (addLinks l h)) = add-leaves h full l e in
-      subst (Afresh order) (sym (left .1))
-      (afresh (addLinks l h) order (sym (ap isSound (left .1)) ∙ left .0) (List·Permᴰ·trans perm (inserted-perm keyOf l (h .links))))
+  pub add-afresh : (l : Link) → refusal (tableAdd l .checks h tt) ≡ 0 → List·Permᴰ order (l ∷ h .links) → Afresh order (tableAdd l .leaves h)
+  unfolding tableAdd
+  add-afresh l e perm = afresh (addLinks l h) order (add-leaves h full l e) (List·Permᴰ·trans perm (inserted-perm keyOf l (h .links)))
 
-  pub remove-afresh : (l : Link) → removed l h .answer ≡ 0 → List·Permᴰ order (removeLinks l h) → Afresh order (removed l h .leaves)
-  remove-afresh l e perm =
-      let left : (isSound (removed l h .leaves) ≡ true) × (removed l h .leaves ≡ holding (removeLinks l h)) = remove-leaves h full l e in
-      subst (Afresh order) (sym (left .1)) (afresh (removeLinks l h) order (sym (ap isSound (left .1)) ∙ left .0) perm)
+  pub remove-afresh : (l : Link) → refusal (tableRemove l .checks h tt) ≡ 0 → List·Permᴰ order (removeLinks l h) → Afresh order (tableRemove l .leaves h)
+  unfolding tableRemove
+  remove-afresh l e = afresh (removeLinks l h) order (remove-leaves h full l e)
 
-  pub tag-afresh : (tag : ℕ) → tagRemoved tag h .answer ≡ 0 → List·Permᴰ order (tagLinks tag h) → Afresh order (tagRemoved tag h .leaves)
-  tag-afresh tag e perm =
-      let left : (isSound (tagRemoved tag h .leaves) ≡ true) × (tagRemoved tag h .leaves ≡ holding (tagLinks tag h)) = tag-leaves h full tag e in
-      subst (Afresh order) (sym (left .1)) (afresh (tagLinks tag h) order (sym (ap isSound (left .1)) ∙ left .0) perm)
+  pub drop-afresh : (tag : ℕ) → refusal (tableDrop tag .checks h tt) ≡ 0 → List·Permᴰ order (tagLinks tag h) → Afresh order (tableDrop tag .leaves h)
+  unfolding tableDrop
+  drop-afresh tag e = afresh (tagLinks tag h) order (drop-leaves h full tag e)

@@ -1,25 +1,35 @@
--- What the calls of a table come to, check by check: each law takes what the code found out and gives the outcome.
+-- What the edits of a table come to, check by check: each law takes what the code found out and gives the number of the checks, or
+-- the refusal.
 -- Assumes nothing.
-use Prim.Native.Nat.{ℕ, zero, _≤_, _<_}
+use Prim.Native.Nat.{_≤_, _<_}
 use mathlib.Core.Path.{_≡_, sym, ap, _∙_}
 use mathlib.Core.Bool.{true, false, not}
 use mathlib.Core.List.{List, _∷_}
 use lib.Dec.{leb}
 use borrow.Author.Tests.{le-leb, lt-leb, leb-false, not-false}
 use Rattle.answers.specs.Answers.{Check, refusal}
-use Rattle.answers.proofs.Refusals.{refused-by, passed-by, all-passed, none-left, done, refused, refused-as}
+use Rattle.answers.specs.Rules.{refusedBy}
+use Rattle.answers.proofs.Refusals.{refused-by, passed-by, all-passed, none-left}
+use Rattle.answers.proofs.Rules.{refuse}
 use Rattle.link.specs.declared.Link.{Link}
-use Rattle.table.specs.Links.{Held, holding}
+use Rattle.table.specs.Links.{Held}
 use Rattle.link.specs.Link.{keyOf, inRange}
 use Rattle.table.specs.Sound.{most, isSound}
-use Rattle.links.specs.Edits.{isIn, otherClass, unsound, addLinks, addMoved, addChecks, added, removeLinks, removeMoved, removed, tagLinks, tagMoved, tagRemoved}
+use Rattle.links.specs.Edits.{isIn, otherClass, TableRule, unsound, addChecks, edited}
 
 module _ (h : Held) where
-  not-sound : (others : List Check) → isSound h ≡ false → refusal (unsound h ∷ others) ≡ 12
-  not-sound others e = refused-by (not (isSound h)) 12 others (ap not e)
+  -- a table that is not sound is refused by 12, whatever the edit
+  pub not-sound : (rule : TableRule) (own : List Check) → rule .checks h tt ≡ unsound h ∷ own → isSound h ≡ false → refusedBy 12 h tt ≡ edited rule h
+  not-sound rule own is e = refuse rule h tt (ap refusal is ∙ refused-by (not (isSound h)) 12 own (ap not e))
 
-  sound : (others : List Check) → isSound h ≡ true → refusal (unsound h ∷ others) ≡ refusal others
-  sound others e = passed-by (not (isSound h)) 12 others (ap not e)
+  -- of a sound one the edit's own checks decide
+  pub own-checks : (own : List Check) → isSound h ≡ true → refusal (unsound h ∷ own) ≡ refusal own
+  own-checks own e = passed-by (not (isSound h)) 12 own (ap not e)
+
+  pub was-sound : (own : List Check) → refusal (unsound h ∷ own) ≡ 0 → (isSound h ≡ true) × (refusal own ≡ 0)
+  was-sound own e =
+      let both : (not (isSound h) ≡ false) × (refusal own ≡ 0) = all-passed (not (isSound h)) 11 own e in
+      (not-false (isSound h) (both .0), both .1)
 
   -- ---- add a link
 
@@ -68,45 +78,3 @@ module _ (h : Held) where
           one-class = c .0;
           room = leb-false most (h .count) (d .0);
         }
-
-    pub added-unsound : isSound h ≡ false → added l h ≡ record { answer = 12; count = 0; leaves = h }
-    unfolding added
-    added-unsound e = refused-as _ _ _ _ 11 (not-sound _ e)
-
-    pub added-refused : isSound h ≡ true → {n : ℕ} → n ≡ refusal (addChecks l h) → (n ≡ 0 → ⊥) → added l h ≡ record { answer = n; count = 0; leaves = h }
-    unfolding added
-    added-refused e {n} judged some =
-        let number : refusal (unsound h ∷ addChecks l h) ≡ n = sound _ e ∙ sym judged in
-        refused _ _ _ _ (λ zero. some (sym number ∙ zero)) ∙ ap (λ (m : ℕ). record { answer = m; count = 0; leaves = h }) number
-
-    pub added-done : isSound h ≡ true → 0 ≡ refusal (addChecks l h)
-        → added l h ≡ record { answer = 0; count = addMoved l h; leaves = holding (addLinks l h) }
-    unfolding added
-    added-done e judged = done _ _ _ _ (sound _ e ∙ sym judged)
-
-    -- ---- remove a link
-
-    pub removed-unsound : isSound h ≡ false → removed l h ≡ record { answer = 12; count = 0; leaves = h }
-    unfolding removed
-    removed-unsound e = refused-as _ _ _ _ 11 (not-sound _ e)
-
-    pub removed-none : isSound h ≡ true → isIn keyOf l (h .links) ≡ false → removed l h ≡ record { answer = 5; count = 0; leaves = h }
-    unfolding removed
-    removed-none e n = refused-as _ _ _ _ 4 (sound _ e ∙ refused-by _ 5 _ (ap not n))
-
-    pub removed-done : isSound h ≡ true → isIn keyOf l (h .links) ≡ true
-        → removed l h ≡ record { answer = 0; count = removeMoved l h; leaves = holding (removeLinks l h) }
-    unfolding removed
-    removed-done e n = done _ _ _ _ (sound _ e ∙ passed-by _ 5 _ (ap not n) ∙ none-left)
-
-  -- ---- remove the links of a tag
-
-  module _ (tag : ℕ) where
-    pub tag-unsound : isSound h ≡ false → tagRemoved tag h ≡ record { answer = 12; count = 0; leaves = h }
-    unfolding tagRemoved
-    tag-unsound e = refused-as _ _ _ _ 11 (not-sound _ e)
-
-    pub tag-done : isSound h ≡ true
-        → tagRemoved tag h ≡ record { answer = 0; count = tagMoved tag h; leaves = holding (tagLinks tag h) }
-    unfolding tagRemoved
-    tag-done e = done _ _ _ _ (sound _ e ∙ none-left)

@@ -14,9 +14,12 @@ use Rattle.link.specs.declared.Link.{Link}
 use Rattle.table.specs.declared.Table.{Table}
 use Rattle.laws.specs.Kept.{kept}
 use Rattle.link.specs.Link.{keyOf, nothing}
-use Rattle.table.specs.Links.{Held, heldOf, holding}
+use Rattle.table.specs.Links.{heldOf}
 use Rattle.table.specs.Sound.{isSound}
-use Rattle.links.specs.Edits.{stays, dropped, tagMoved, tagLinks, editedOf}
+use Rattle.links.specs.Edits.{stays, dropped, tagMoved, tableDrop, edited, editedOf}
+use Rattle.answers.proofs.Refusals.{none-left}
+use Rattle.answers.proofs.Rules.{accept}
+use Rattle.links.proofs.Calls.{own-checks}
 use Rattle.links.proofs.Places.{shifted, moved-kept}
 use Rattle.table.proofs.Sound.{sound-reads}
 use Rattle.table.proofs.Stores.{few, many, holds-list, held-at}
@@ -128,9 +131,8 @@ module _ (tag : ℕ) (t : Table) (whole : length (t .links) ≡ 512) where
 
     -- at the end: the links that stay, and how many have moved
     pub swept-all : isSound (heldOf t) ≡ true → t .count ≤ i
-        → editedOf (record { answer = 0; moved = moved; table = record { count = free; links = new } })
-        ≡ record { answer = 0; count = tagMoved tag (heldOf t); leaves = holding (tagLinks tag (heldOf t)) }
-    unfolding kept shifted dropped
+        → editedOf (record { answer = 0; moved = moved; table = record { count = free; links = new } }) ≡ edited (tableDrop tag) (heldOf t)
+    unfolding kept shifted dropped tableDrop
     swept-all sound end =
         let over : drop i (heldOf t .links) ≡ [] = drop-of-length-le (heldOf t .links) {i = i} (omega (arith, many t whole few)) in
         let left : take free new ≡ dropped tag (heldOf t .links) =
@@ -138,6 +140,6 @@ module _ (tag : ℕ) (t : Table) (whole : length (t .links) ≡ 512) where
         let none : shifted (stays tag) (ltb free i) (drop i (heldOf t .links)) ≡ 0 = ap (shifted (stays tag) (ltb free i)) over in
         let by-places : moved ≡ tagMoved tag (heldOf t) =
         omega (arith, at .moves, none) ∙ sym (moved-kept keyOf (stays tag) (heldOf t .links) (sound-reads (heldOf t) sound .1 .ascends)) in
-        ap₂ (λ (n : ℕ) (h : Held). record { answer = 0; count = n; leaves = h }) by-places
+        accept (tableDrop tag) (heldOf t) tt (own-checks (heldOf t) [] sound ∙ none-left) by-places refl
         (holds-list (record { count = free; links = new }) (dropped tag (heldOf t .links)) left
-        (sym (length-take-le free new (omega (arith, at .packed, at .passed, at .room))) ∙ ap length left))
+        (sym (length-take-le free new (omega (arith, at .packed, at .passed, at .room))) ∙ ap length left)) refl

@@ -2,24 +2,24 @@
 -- Assumes nothing.
 use Prim.Native.Nat.{ℕ, suc, _-_, _≤_, _<_}
 use native.Mathlib.Omega.{arith}
-use mathlib.Core.Path.{_≡_, refl, sym, ap, ap₂, _∙_}
+use mathlib.Core.Path.{_≡_, refl, sym, ap, _∙_}
 use mathlib.Core.Bool.{Bool, true, false, not}
 use mathlib.Core.List.{List, [], _∷_, _++_}
 use lib.ListN.{length, getD, take, drop}
-use borrow.Author.Tests.{not-false}
-use Rattle.answers.specs.Answers.{Check, refusal, Outcome}
-use Rattle.answers.proofs.Refusals.{all-passed, answers}
+use Rattle.answers.specs.Answers.{refusal}
+use Rattle.answers.proofs.Refusals.{passed-by, none-left}
+use Rattle.answers.proofs.Rules.{accept}
 use Rattle.link.specs.declared.Link.{Link}
 use Rattle.laws.specs.Kept.{kept}
 use Rattle.link.specs.Link.{keyOf, nothing}
 use Rattle.table.specs.Links.{rank, Held, holding}
 use Rattle.table.specs.Sound.{most, isSound}
-use Rattle.links.specs.Edits.{isIn, inserted, others, deleted, stays, dropped, unsound, addLinks, addMoved, addChecks, added, removeOwn, removeLinks, removeMoved, removed, tagLinks, tagRemoved}
+use Rattle.links.specs.Edits.{isIn, inserted, others, deleted, stays, dropped, addLinks, addMoved, addChecks, tableAdd, removeOwn, removeLinks, removeMoved, tableRemove, tableDrop, edited}
 use Rattle.table.proofs.Ranks.{Asc, rank-bounded}
 use Rattle.links.proofs.Order.{in-found, inserted-at, inserted-perm, inserted-asc, inserted-length, deleted-at}
 use Rattle.links.proofs.Places.{moved-inserted, moved-deleted}
 use Rattle.table.proofs.Sound.{Fine, sound-reads, sound-holds}
-use Rattle.links.proofs.Calls.{Accepted, accepted, added-done, removed-done, tag-done}
+use Rattle.links.proofs.Calls.{own-checks, was-sound, Accepted, accepted}
 use Rattle.link.proofs.Ranges.{InRange, range-reads}
 use Rattle.link.proofs.Neighbours.{Agree}
 use Rattle.links.proofs.Classes.{agrees-all}
@@ -37,13 +37,14 @@ module _ (h : Held) (l : Link) (sound : isSound h ≡ true) (full : length (h .l
   place-low = omega (arith, rank-bounded keyOf (keyOf l) (h .links))
 
   pub added-at : 0 ≡ refusal (addChecks l h) → {left : Held} → left ≡ holding (take place (h .links) ++ l ∷ drop place (h .links))
-      → record { answer = 0; count = h .count - place; leaves = left } ≡ added l h
+      → record { answer = 0; count = h .count - place; second = 0; leaves = left; cells = tt } ≡ edited (tableAdd l) h
+  unfolding tableAdd
   added-at judged {left} e =
       let new : isIn keyOf l (h .links) ≡ false = accepted h l (sym judged) .new in
       let many : h .count - place ≡ addMoved l h = omega (arith, moved-inserted keyOf l (h .links) ascends new) in
       let links : left ≡ holding (addLinks l h) =
       e ∙ ap (λ (p : ℕ). holding (take p (h .links) ++ l ∷ drop p (h .links))) searched ∙ ap holding (sym (inserted-at keyOf l (h .links) ascends)) in
-      ap₂ (λ (n : ℕ) (g : Held). record { answer = 0; count = n; leaves = g }) many links ∙ sym (added-done h l sound judged)
+      accept (tableAdd l) h tt (own-checks h (addChecks l h) sound ∙ sym judged) many refl links refl
 
   module _ (there : isIn keyOf l (h .links) ≡ true) where
     found : (rank keyOf (keyOf l) (h .links) < length (h .links)) × (keyOf (getD (h .links) (rank keyOf (keyOf l) (h .links)) nothing) ≡ keyOf l)
@@ -53,14 +54,15 @@ module _ (h : Held) (l : Link) (sound : isSound h ≡ true) (full : length (h .l
     place-below = omega (arith, found .0)
 
     pub removed-at : {left : Held} → left ≡ holding (take place (h .links) ++ drop (suc place) (h .links))
-        → record { answer = 0; count = h .count - 1 - place; leaves = left } ≡ removed l h
+        → record { answer = 0; count = h .count - 1 - place; second = 0; leaves = left; cells = tt } ≡ edited (tableRemove l) h
+    unfolding tableRemove
     removed-at {left} e =
         let many : h .count - 1 - place ≡ removeMoved l h =
         omega (arith, moved-deleted keyOf l (h .links) nothing ascends (found .0) (found .1)) in
         let links : left ≡ holding (removeLinks l h) =
         e ∙ ap (λ (p : ℕ). holding (take p (h .links) ++ drop (suc p) (h .links))) searched
         ∙ ap holding (sym (deleted-at keyOf l (h .links) nothing ascends (found .0) (found .1))) in
-        ap₂ (λ (n : ℕ) (g : Held). record { answer = 0; count = n; leaves = g }) many links ∙ sym (removed-done h l sound there)
+        accept (tableRemove l) h tt (own-checks h (removeOwn l h) sound ∙ passed-by _ 5 _ (ap not there) ∙ none-left) many refl links refl
 
 -- ---- an accepted edit leaves a sound table, with the list that the definitions say
 
@@ -85,56 +87,26 @@ fine-inserted l ls f r new agree =
       agrees = pairs-perm Agree agree-back (inserted-perm keyOf l ls) (agree, f .agrees);
     }
 
--- the links that are left are those that pass a test
-deleted-kept : {A : Type 0} (key : A → ℕ) (a : A) (xs : List A) → deleted key a xs ≡ kept (others key a) xs
-unfolding deleted
-deleted-kept key a xs = refl
-
-dropped-kept : (tag : ℕ) (ls : List Link) → dropped tag ls ≡ kept (stays tag) ls
-unfolding dropped
-dropped-kept tag ls = refl
-
 module _ (h : Held) (full : length (h .links) ≡ h .count) where
-  -- of a table that was accepted
-  was-sound : (others : List Check) → refusal (unsound h ∷ others) ≡ 0 → (isSound h ≡ true) × (refusal others ≡ 0)
-  was-sound others e =
-      let both : (not (isSound h) ≡ false) × (refusal others ≡ 0) = all-passed (not (isSound h)) 11 others e in
-      (not-false (isSound h) (both .0), both .1)
-
-  pub add-leaves : (l : Link) → added l h .answer ≡ 0
-      → (isSound (added l h .leaves) ≡ true) × (added l h .leaves ≡ holding (addLinks l h))
-  unfolding added
+  pub add-leaves : (l : Link) → refusal (tableAdd l .checks h tt) ≡ 0 → isSound (tableAdd l .leaves h) ≡ true
+  unfolding tableAdd
   add-leaves l e =
-      let passed : (isSound h ≡ true) × (refusal (addChecks l h) ≡ 0) = was-sound (addChecks l h) (sym (answers _ _ _ _) ∙ e) in
+      let passed : (isSound h ≡ true) × (refusal (addChecks l h) ≡ 0) = was-sound h (addChecks l h) e in
       let ok : Accepted h l = accepted h l (passed .1) in
       let fine : Fine (h .links) = sound-reads h (passed .0) .1 in
-      let left : added l h .leaves ≡ holding (addLinks l h) = ap (λ (o : Outcome Held). o .leaves) (added-done h l (passed .0) (sym (passed .1))) in
-      let new : Fine (inserted keyOf l (h .links)) =
-      fine-inserted l (h .links) fine (range-reads l (ok .range)) (ok .new) (agrees-all l (h .links) (fine .agrees) (ok .one-class)) in (
-        ap isSound left ∙ sound-holds (holding (addLinks l h)) (omega (arith, ok .room, inserted-length keyOf l (h .links))) new,
-        left,
-      )
+      sound-holds (holding (addLinks l h)) (omega (arith, ok .room, inserted-length keyOf l (h .links)))
+      (fine-inserted l (h .links) fine (range-reads l (ok .range)) (ok .new) (agrees-all l (h .links) (fine .agrees) (ok .one-class)))
 
   -- some links of a sound table are a sound table
-  kept-sound : isSound h ≡ true → (p : Link → Bool) (ls : List Link) → ls ≡ kept p (h .links) → isSound (holding ls) ≡ true
-  kept-sound e p ls is =
+  kept-sound : isSound h ≡ true → (p : Link → Bool) → isSound (holding (kept p (h .links))) ≡ true
+  kept-sound e p =
       let both : (h .count ≤ most) × Fine (h .links) = sound-reads h e in
-      ap (λ (l : List Link). isSound (holding l)) is
-      ∙ sound-holds (holding (kept p (h .links))) (omega (arith, both .0, kept-length p (h .links))) (fine-kept p (h .links) (both .1))
+      sound-holds (holding (kept p (h .links))) (omega (arith, both .0, kept-length p (h .links))) (fine-kept p (h .links) (both .1))
 
-  pub remove-leaves : (l : Link) → removed l h .answer ≡ 0
-      → (isSound (removed l h .leaves) ≡ true) × (removed l h .leaves ≡ holding (removeLinks l h))
-  unfolding removed
-  remove-leaves l e =
-      let passed : (isSound h ≡ true) × (refusal (removeOwn l h) ≡ 0) = was-sound (removeOwn l h) (sym (answers _ _ _ _) ∙ e) in
-      let there : isIn keyOf l (h .links) ≡ true = not-false (isIn keyOf l (h .links)) (all-passed (not (isIn keyOf l (h .links))) 4 [] (passed .1) .0) in
-      let left : removed l h .leaves ≡ holding (removeLinks l h) = ap (λ (o : Outcome Held). o .leaves) (removed-done h l (passed .0) there) in
-      (ap isSound left ∙ kept-sound (passed .0) (others keyOf l) (deleted keyOf l (h .links)) (deleted-kept keyOf l (h .links)), left)
+  pub remove-leaves : (l : Link) → refusal (tableRemove l .checks h tt) ≡ 0 → isSound (tableRemove l .leaves h) ≡ true
+  unfolding tableRemove deleted
+  remove-leaves l e = kept-sound (was-sound h (removeOwn l h) e .0) (others keyOf l)
 
-  pub tag-leaves : (tag : ℕ) → tagRemoved tag h .answer ≡ 0
-      → (isSound (tagRemoved tag h .leaves) ≡ true) × (tagRemoved tag h .leaves ≡ holding (tagLinks tag h))
-  unfolding tagRemoved
-  tag-leaves tag e =
-      let passed : (isSound h ≡ true) × (refusal [] ≡ 0) = was-sound [] (sym (answers _ _ _ _) ∙ e) in
-      let left : tagRemoved tag h .leaves ≡ holding (tagLinks tag h) = ap (λ (o : Outcome Held). o .leaves) (tag-done h tag (passed .0)) in
-      (ap isSound left ∙ kept-sound (passed .0) (stays tag) (dropped tag (h .links)) (dropped-kept tag (h .links)), left)
+  pub drop-leaves : (tag : ℕ) → refusal (tableDrop tag .checks h tt) ≡ 0 → isSound (tableDrop tag .leaves h) ≡ true
+  unfolding tableDrop dropped
+  drop-leaves tag e = kept-sound (was-sound h [] e .0) (stays tag)

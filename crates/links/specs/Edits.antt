@@ -6,7 +6,8 @@ use mathlib.Core.Bool.{Bool, false, cond, not, _&&_, _||_}
 use mathlib.Core.List.{List, [], _∷_, tail}
 use lib.Dec.{eqb, ltb, leb}
 use Rattle.laws.specs.Kept.{kept}
-use Rattle.answers.specs.Answers.{Check, refusal, Outcome, answered}
+use Rattle.answers.specs.Answers.{Check}
+use Rattle.answers.specs.Rules.{Rule, Result, carried, edit}
 use Rattle.kinds.specs.Kinds.{classOf}
 use Rattle.link.specs.declared.Link.{Link}
 use Rattle.link.specs.Link.{inRange, keyOf}
@@ -60,6 +61,10 @@ unfoldable pub otherClass : Link → List Link → Bool
 otherClass l ls =
     not (eqb (addressClass (l .address) ls) 0) && not (eqb (addressClass (l .address) ls) (classOf (l .kind)))
 
+-- An edit of a table: a call on what it holds that is lent no cells.
+abbrev pub TableRule : Type 0
+TableRule = Rule Held (Unit {0})
+
 -- Every edit first refuses a table that is not sound.
 abbrev pub unsound : Held → Check
 unsound h = (not (isSound h), 12)
@@ -80,8 +85,8 @@ addMoved l h = moved keyOf (h .links) (addLinks l h)
 unfoldable pub addChecks : Link → Held → List Check
 addChecks l h = (not (inRange l), 1) ∷ addOwn l h
 
-unfoldable pub added : Link → Held → Outcome Held
-added l h = answered (refusal (unsound h ∷ addChecks l h)) h (addMoved l h) (holding (addLinks l h))
+unfoldable pub tableAdd : Link → TableRule
+tableAdd l = edit (λ h. unsound h ∷ addChecks l h) (addMoved l) (λ h. holding (addLinks l h))
 
 -- ---- remove link
 
@@ -95,8 +100,8 @@ removeLinks l h = deleted keyOf l (h .links)
 abbrev pub removeMoved : Link → Held → ℕ
 removeMoved l h = moved keyOf (h .links) (removeLinks l h)
 
-unfoldable pub removed : Link → Held → Outcome Held
-removed l h = answered (refusal (unsound h ∷ removeOwn l h)) h (removeMoved l h) (holding (removeLinks l h))
+unfoldable pub tableRemove : Link → TableRule
+tableRemove l = edit (λ h. unsound h ∷ removeOwn l h) (removeMoved l) (λ h. holding (removeLinks l h))
 
 -- ---- remove the links of a tag: no check of its own
 
@@ -106,9 +111,13 @@ tagLinks tag h = dropped tag (h .links)
 abbrev pub tagMoved : ℕ → Held → ℕ
 tagMoved tag h = moved keyOf (h .links) (tagLinks tag h)
 
-unfoldable pub tagRemoved : ℕ → Held → Outcome Held
-tagRemoved tag h = answered (refusal (unsound h ∷ [])) h (tagMoved tag h) (holding (tagLinks tag h))
+unfoldable pub tableDrop : ℕ → TableRule
+tableDrop tag = edit (λ h. unsound h ∷ []) (tagMoved tag) (λ h. holding (tagLinks tag h))
 
--- What a result of an edit says: the answer, the count, and what is left.
-abbrev pub editedOf : Edited → Outcome Held
-editedOf r = record { answer = r .answer; count = r .moved; leaves = heldOf (r .table) }
+-- ---- what an edit answers and leaves, and what the result of a function says of it
+
+abbrev pub edited : TableRule → Held → Result Held (Unit {0})
+edited rule h = carried rule h tt
+
+abbrev pub editedOf : Edited → Result Held (Unit {0})
+editedOf r = record { answer = r .answer; count = r .moved; second = 0; leaves = heldOf (r .table); cells = tt }

@@ -14,7 +14,7 @@ ghost use Rattle.answers.specs.Answers.{refusal};
 ghost use Rattle.link.specs.Link.{keyOf};
 ghost use Rattle.table.specs.Links.{rank, heldOf, holding};
 ghost use Rattle.table.specs.Sound.{most, isSound};
-ghost use Rattle.links.specs.Edits.{stays, addChecks, added, removed, tagRemoved, editedOf};
+ghost use Rattle.links.specs.Edits.{stays, addChecks, tableAdd, tableRemove, tableDrop, edited, editedOf};
 use crate::search::below;
 use crate::search::holds;
 use crate::search::other_class;
@@ -116,7 +116,7 @@ fn without_at(table: Table, place: usize) -> Table
 
 // Adds a link; refused by 12, 1, 4, 8, 7, in this order.
 pub fn add(table: Table, link: Link) -> Edited
-    ensures { λ r. ⌜ editedOf r ≡ added link (heldOf table) ⌝ }
+    ensures { λ r. ⌜ editedOf r ≡ edited (tableAdd link) (heldOf table) ⌝ }
 {
     if !table.is_sound() {
         return Edited {
@@ -145,7 +145,7 @@ pub fn add(table: Table, link: Link) -> Edited
 
 // Removes a link; refused by 12, 5, in this order.
 pub fn remove(table: Table, link: Link) -> Edited
-    ensures { λ r. ⌜ editedOf r ≡ removed link (heldOf table) ⌝ }
+    ensures { λ r. ⌜ editedOf r ≡ edited (tableRemove link) (heldOf table) ⌝ }
 {
     if !table.is_sound() {
         return Edited {
@@ -174,7 +174,7 @@ pub fn remove(table: Table, link: Link) -> Edited
 // Removes all links of a tag; refused by 12. A tag that no link has removes nothing. Each link is stored at the next free
 // place, and only one that stays takes it.
 pub fn remove_tag(table: Table, tag: u64) -> Edited
-    ensures { λ r. ⌜ editedOf r ≡ tagRemoved tag (heldOf table) ⌝ }
+    ensures { λ r. ⌜ editedOf r ≡ edited (tableDrop tag) (heldOf table) ⌝ }
 {
     if !table.is_sound() {
         return Edited {

@@ -7,8 +7,8 @@ use lib.Dec.{ltb}
 use borrow.Author.Tests.{ltb-true}
 use native.Mathlib.Omega.{arith}
 use Rattle.answers.specs.Answers.{refusal}
-use Rattle.answers.specs.Rules.{Rule, Result, refusedBy, carried}
-use Rattle.answers.proofs.Rules.{carried-refused, refused, accept}
+use Rattle.answers.specs.Rules.{Result}
+use Rattle.answers.proofs.Rules.{refused, refuse-with, accept}
 use Rattle.panel.specs.declared.Panel.{Panel}
 use Rattle.panel.specs.declared.calls.Answered.{Answered}
 use Rattle.panel.specs.Panel.{Model, modelOf}
@@ -20,7 +20,7 @@ module _ (rule : CallRule) (panel : Panel) (cells : Cells) where
       → Does rule panel cells (record { answer = n; count = 0; panel = panel }) cells
   refuses-with n some e =
       record {
-        outcome = ap (λ (k : ℕ). refusedBy k (modelOf panel) cells) (sym e) ∙ sym (carried-refused rule (modelOf panel) cells (λ z. some (sym e ∙ z)));
+        outcome = refuse-with rule (modelOf panel) cells some e;
         kept = λ h. refl;
       }
 

@@ -7,8 +7,10 @@ use mathlib.Core.Bool.{Bool, true, false, cond, not, _&&_}
 use mathlib.Core.List.{List, [], _∷_}
 use lib.Dec.{eqb, leb}
 use borrow.Author.Tests.{eq-eqb, ne-eqb, not-false}
-use Rattle.answers.specs.Answers.{Check, first, refusal, Outcome}
-use Rattle.answers.proofs.Refusals.{refused-by, passed-by, all-passed, answers, done}
+use Rattle.answers.specs.Answers.{Check, first, refusal}
+use Rattle.answers.specs.Rules.{Result, doneBy}
+use Rattle.answers.proofs.Refusals.{refused-by, passed-by, all-passed}
+use Rattle.answers.proofs.Rules.{carried-done, answer-is}
 use Rattle.tags.specs.Tags.{TagSet, tagsOf}
 use Rattle.link.specs.declared.Link.{Link}
 use Rattle.table.specs.declared.Table.{Table}
@@ -16,7 +18,7 @@ use Rattle.links.specs.declared.Edited.{Edited}
 use Rattle.link.specs.Link.{inRange, keyOf}
 use Rattle.table.specs.Links.{Held, heldOf, holding}
 use Rattle.table.specs.Sound as ofLinks
-use Rattle.links.specs.Edits.{isIn, otherClass, unsound, addOwn, addMoved, addLinks, addChecks, added, removeOwn, removeMoved, removeLinks, removed, editedOf}
+use Rattle.links.specs.Edits.{isIn, otherClass, unsound, addOwn, addMoved, addLinks, addChecks, tableAdd, removeOwn, removeMoved, removeLinks, tableRemove, edited as tableEdited, editedOf}
 use Rattle.panel.specs.declared.Panel.{Panel}
 use Rattle.panel.specs.Panel.{Model, seatsOf, modelOf, presentIn, relinked}
 use Rattle.panel.specs.Fields.{withTable}
@@ -89,10 +91,10 @@ module _ (l : Link) (m : Model) (cells : Cells) where
 
 -- ---- add link
 
-module _ (l made : Link) (edited : Edited) (m : Model) (cells : Cells) (same : inRange l ≡ true → made ≡ l) (told : editedOf edited ≡ added made (m .table)) where
+module _ (l made : Link) (edited : Edited) (m : Model) (cells : Cells) (same : inRange l ≡ true → made ≡ l) (told : editedOf edited ≡ tableEdited (tableAdd made) (m .table)) where
   add-number : edited .answer ≡ refusal (unsound (m .table) ∷ addChecks made (m .table))
-  unfolding added
-  add-number = ap (λ (o : Outcome Held). o .answer) told ∙ answers _ _ _ _
+  unfolding tableAdd
+  add-number = ap (λ (r : Result Held (Unit {0})). r .answer) told ∙ answer-is (tableAdd made) (m .table) tt
 
   pub add-sound-told : not (eqb (edited .answer) 12) ≡ ofLinks.isSound (m .table)
   unfolding addChecks first
@@ -132,22 +134,22 @@ module _ (l made : Link) (edited : Edited) (m : Model) (cells : Cells) (same : i
   -- where it is 0, the table's edit was done, with this link
   pub add-done : refusal (addRule l .checks m cells) ≡ 0
       → (edited .moved ≡ addMoved l (m .table)) × (heldOf (edited .table) ≡ holding (addLinks l (m .table)))
-  unfolding added addChecks
+  unfolding tableAdd addChecks
   add-done e =
       let ok : Addable l m cells = addable l m cells e in
       let zero : refusal (unsound (m .table) ∷ addChecks l (m .table)) ≡ 0 =
       passed-by (not (ofLinks.isSound (m .table))) 12 (addChecks l (m .table)) (ap not (table-sound m (ok .sound)))
       ∙ passed-by (not (inRange l)) 1 (addOwn l (m .table)) (ap not (ok .range)) ∙ ok .own in
-      let all : editedOf edited ≡ record { answer = 0; count = addMoved l (m .table); leaves = holding (addLinks l (m .table)) } =
-      told ∙ ap (λ (k : Link). added k (m .table)) (same (ok .range)) ∙ done _ _ _ _ zero in
-      (ap (λ (o : Outcome Held). o .count) all, ap (λ (o : Outcome Held). o .leaves) all)
+      let all : editedOf edited ≡ doneBy (tableAdd l) (m .table) tt =
+      told ∙ ap (λ (k : Link). tableEdited (tableAdd k) (m .table)) (same (ok .range)) ∙ carried-done (tableAdd l) (m .table) tt zero in
+      (ap (λ (r : Result Held (Unit {0})). r .count) all, ap (λ (r : Result Held (Unit {0})). r .leaves) all)
 
 -- ---- remove link
 
-module _ (l made : Link) (edited : Edited) (m : Model) (cells : Cells) (same : inRange l ≡ true → made ≡ l) (told : editedOf edited ≡ removed made (m .table)) where
+module _ (l made : Link) (edited : Edited) (m : Model) (cells : Cells) (same : inRange l ≡ true → made ≡ l) (told : editedOf edited ≡ tableEdited (tableRemove made) (m .table)) where
   remove-number : edited .answer ≡ refusal (unsound (m .table) ∷ removeOwn made (m .table))
-  unfolding removed
-  remove-number = ap (λ (o : Outcome Held). o .answer) told ∙ answers _ _ _ _
+  unfolding tableRemove
+  remove-number = ap (λ (r : Result Held (Unit {0})). r .answer) told ∙ answer-is (tableRemove made) (m .table) tt
 
   pub remove-sound-told : not (eqb (edited .answer) 12) ≡ ofLinks.isSound (m .table)
   unfolding first
@@ -173,11 +175,11 @@ module _ (l made : Link) (edited : Edited) (m : Model) (cells : Cells) (same : i
 
   pub remove-done : refusal (removeLinkRule l .checks m cells) ≡ 0
       → (edited .moved ≡ removeMoved l (m .table)) × (heldOf (edited .table) ≡ holding (removeLinks l (m .table)))
-  unfolding removed
+  unfolding tableRemove
   remove-done e =
       let ok : Removable l m cells = removable l m cells e in
       let zero : refusal (unsound (m .table) ∷ removeOwn l (m .table)) ≡ 0 =
       passed-by (not (ofLinks.isSound (m .table))) 12 (removeOwn l (m .table)) (ap not (table-sound m (ok .sound))) ∙ ok .own in
-      let all : editedOf edited ≡ record { answer = 0; count = removeMoved l (m .table); leaves = holding (removeLinks l (m .table)) } =
-      told ∙ ap (λ (k : Link). removed k (m .table)) (same (ok .range)) ∙ done _ _ _ _ zero in
-      (ap (λ (o : Outcome Held). o .count) all, ap (λ (o : Outcome Held). o .leaves) all)
+      let all : editedOf edited ≡ doneBy (tableRemove l) (m .table) tt =
+      told ∙ ap (λ (k : Link). tableEdited (tableRemove k) (m .table)) (same (ok .range)) ∙ carried-done (tableRemove l) (m .table) tt zero in
+      (ap (λ (r : Result Held (Unit {0})). r .count) all, ap (λ (r : Result Held (Unit {0})). r .leaves) all)

@@ -8,18 +8,18 @@ use mathlib.Core.List.{List, [], _∷_, List·Permᴰ, List·Permᴰ·trans, Per
 use borrow.Author.Tests.{not-false}
 use Rattle.answers.specs.Answers.{refusal}
 use Rattle.answers.specs.Rules.{Result, carried}
-use Rattle.answers.proofs.Refusals.{all-passed, answers}
-use Rattle.answers.proofs.Rules.{carried-done, answer-is}
+use Rattle.answers.proofs.Refusals.{all-passed}
+use Rattle.answers.proofs.Rules.{carried-done, answer-is, done}
 use Rattle.link.specs.declared.Link.{Link}
 use Rattle.link.specs.Link.{inRange, keyOf}
 use Rattle.table.specs.Links.{Held, holding}
 use Rattle.table.specs.Sound as ofLinks
-use Rattle.links.specs.Edits.{addOwn, addChecks, removeLinks, added}
+use Rattle.links.specs.Edits.{addOwn, addChecks, removeLinks, tableAdd, edited}
 use Rattle.links.specs.Afresh.{addedAll, AllAccepted, Afresh}
 use Rattle.laws.proofs.Each.{Each, first, rest, each-perm}
 use Rattle.table.proofs.Sound.{sound-decided}
 use Rattle.links.proofs.Order.{inserted-perm}
-use Rattle.links.proofs.Leaves.{add-leaves}
+use Rattle.links.proofs.Calls.{was-sound}
 use Rattle.links.proofs.Afresh.{afresh}
 use Rattle.panel.specs.Panel.{Model, presentIn, relinked}
 use Rattle.panel.specs.Sound.{Fine}
@@ -32,10 +32,10 @@ use Rattle.wiring.proofs.LinkEdits.{Addable, add-accepted}
 use Rattle.wiring.proofs.Soundness.{named, add-keeps, remove-link-keeps}
 
 -- what the table's own edit finds of a link that it accepts
-table-passed : (l : Link) (h : Held) → added l h .answer ≡ 0 → (inRange l ≡ true) × (refusal (addOwn l h) ≡ 0)
-unfolding added addChecks
+table-passed : (l : Link) (h : Held) → edited (tableAdd l) h .answer ≡ 0 → (inRange l ≡ true) × (refusal (addOwn l h) ≡ 0)
+unfolding tableAdd addChecks
 table-passed l h e =
-    let sound = all-passed (not (ofLinks.isSound h)) 11 (addChecks l h) (sym (answers _ _ _ _) ∙ e) in
+    let sound = was-sound h (addChecks l h) (sym (answer-is (tableAdd l) h tt) ∙ e) in
     let range = all-passed (not (inRange l)) 0 (addOwn l h) (sound .1) in
     (not-false (inRange l) (range .0), range .1)
 
@@ -44,14 +44,14 @@ module _ (m : Model) where
   Named = Each (λ l. presentIn m (l .tag) ≡ true)
 
   -- a call of the table that is accepted is accepted by the panel, and leaves the same
-  one-more : (l : Link) (h : Held) → Fine (relinked h m) → presentIn m (l .tag) ≡ true → added l h .answer ≡ 0
-      → (refusal (addRule l .checks (relinked h m) noCells) ≡ 0) × (addRule l .leaves (relinked h m) ≡ relinked (added l h .leaves) m)
-  unfolding addRule presentIn
+  one-more : (l : Link) (h : Held) → Fine (relinked h m) → presentIn m (l .tag) ≡ true → edited (tableAdd l) h .answer ≡ 0
+      → (refusal (addRule l .checks (relinked h m) noCells) ≡ 0) × (addRule l .leaves (relinked h m) ≡ relinked (edited (tableAdd l) h .leaves) m)
+  unfolding addRule tableAdd presentIn
   one-more l h f here e =
       let by-table = table-passed l h e in
       let ok : Addable l (relinked h m) noCells =
       record { sound = sound-tested (relinked h m) (f .sound); range = by-table .0; there = here; own = by-table .1 } in
-      (add-accepted l (relinked h m) noCells ok, ap (λ (g : Held). relinked g m) (sym (add-leaves h (f .full) l e .1)))
+      (add-accepted l (relinked h m) noCells ok, ap (λ (r : Result Held (Unit {0})). relinked (r .leaves) m) (sym (done (tableAdd l) h tt e)))
 
   lifted : (order : List Link) (h : Held) → Fine (relinked h m) → Named order → AllAccepted order h
       → AllAdded order (relinked h m) × (linksAdded order (relinked h m) ≡ relinked (addedAll order h) m)
@@ -59,10 +59,10 @@ module _ (m : Model) where
   lifted [] h f names all = (tt, refl)
   lifted (l ∷ order) h f names all =
       let step = one-more l h f (first names) (all .0) in
-      let left : carried (addRule l) (relinked h m) noCells .leaves ≡ relinked (added l h .leaves) m =
+      let left : carried (addRule l) (relinked h m) noCells .leaves ≡ relinked (edited (tableAdd l) h .leaves) m =
       ap (λ (r : Result Model Cells). r .leaves) (carried-done (addRule l) (relinked h m) noCells (step .0)) ∙ step .1 in
-      let next : Fine (relinked (added l h .leaves) m) = subst Fine (step .1) (add-keeps (relinked h m) noCells f l (step .0)) in
-      let others = lifted order (added l h .leaves) next (rest names) (all .1) in (
+      let next : Fine (relinked (edited (tableAdd l) h .leaves) m) = subst Fine (step .1) (add-keeps (relinked h m) noCells f l (step .0)) in
+      let others = lifted order (edited (tableAdd l) h .leaves) next (rest names) (all .1) in (
         (answer-is (addRule l) (relinked h m) noCells ∙ step .0, subst (AllAdded order) (sym left) (others .0)),
         ap (linksAdded order) left ∙ others .1,
       )

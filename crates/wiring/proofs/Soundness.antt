@@ -1,13 +1,12 @@
 -- Each accepted edit of links leaves a sound panel whose table has as many links as it says. Assumes nothing.
-use mathlib.Core.Path.{_≡_, refl, sym, ap, _∙_}
+use mathlib.Core.Path.{_≡_, refl, ap, _∙_}
 use mathlib.Core.Bool.{true, not}
 use Rattle.answers.specs.Answers.{refusal}
-use Rattle.answers.proofs.Refusals.{passed-by, answers}
+use Rattle.answers.proofs.Refusals.{passed-by}
 use Rattle.link.specs.declared.Link.{Link}
 use Rattle.table.specs.Links.{holding}
 use Rattle.link.specs.Link.{nothing}
-use Rattle.table.specs.Sound as ofLinks
-use Rattle.links.specs.Edits.{addOwn, addLinks, addChecks, added, removeOwn, removeLinks, removed}
+use Rattle.links.specs.Edits.{addOwn, addLinks, addChecks, tableAdd, removeOwn, removeLinks, tableRemove}
 use Rattle.laws.proofs.Each.{Each, each-at, each-of}
 use Rattle.table.proofs.Sound.{sound-decided}
 use Rattle.links.proofs.Leaves.{add-leaves, remove-leaves}
@@ -26,38 +25,36 @@ named m s = each-of (m .table .links) nothing (s .named)
 
 module _ (m : Model) (cells : Cells) (f : Fine m) (l : Link) where
   -- the table's own edit is accepted where the panel's is
-  pub add-by-table : refusal (addRule l .checks m cells) ≡ 0 → added l (m .table) .answer ≡ 0
-  unfolding added addChecks
+  pub add-by-table : refusal (addRule l .checks m cells) ≡ 0 → refusal (tableAdd l .checks (m .table) tt) ≡ 0
+  unfolding tableAdd addChecks
   add-by-table e =
       let ok : Addable l m cells = addable l m cells e in
-      answers _ _ _ _ ∙ passed-by _ 12 (addChecks l (m .table)) (ap not (table-sound m (ok .sound))) ∙ passed-by _ 1 (addOwn l (m .table)) (ap not (ok .range)) ∙ ok .own
+      passed-by _ 12 (addChecks l (m .table)) (ap not (table-sound m (ok .sound))) ∙ passed-by _ 1 (addOwn l (m .table)) (ap not (ok .range)) ∙ ok .own
 
   pub add-keeps : refusal (addRule l .checks m cells) ≡ 0 → Fine (addRule l .leaves m)
-  unfolding addRule
+  unfolding addRule tableAdd
   add-keeps e =
-      let left = add-leaves (m .table) (f .full) l (add-by-table e) in
       record {
         sound =
             links-sound (holding (addLinks l (m .table))) m (f .sound)
-            (sound-decided (holding (addLinks l (m .table))) .0 (ap ofLinks.isSound (sym (left .1)) ∙ left .0))
+            (sound-decided (holding (addLinks l (m .table))) .0 (add-leaves (m .table) (f .full) l (add-by-table e)))
             (λ i h. each-at (addLinks l (m .table)) nothing i h (each-added (m .table .links) (named m (f .sound)) l (addable l m cells e .there)));
         full = refl;
       }
 
-  remove-by-table : refusal (removeLinkRule l .checks m cells) ≡ 0 → removed l (m .table) .answer ≡ 0
-  unfolding removed
+  remove-by-table : refusal (removeLinkRule l .checks m cells) ≡ 0 → refusal (tableRemove l .checks (m .table) tt) ≡ 0
+  unfolding tableRemove
   remove-by-table e =
       let ok : Removable l m cells = removable l m cells e in
-      answers _ _ _ _ ∙ passed-by _ 12 (removeOwn l (m .table)) (ap not (table-sound m (ok .sound))) ∙ ok .own
+      passed-by _ 12 (removeOwn l (m .table)) (ap not (table-sound m (ok .sound))) ∙ ok .own
 
   pub remove-link-keeps : refusal (removeLinkRule l .checks m cells) ≡ 0 → Fine (removeLinkRule l .leaves m)
-  unfolding removeLinkRule
+  unfolding removeLinkRule tableRemove
   remove-link-keeps e =
-      let left = remove-leaves (m .table) (f .full) l (remove-by-table e) in
       record {
         sound =
             links-sound (holding (removeLinks l (m .table))) m (f .sound)
-            (sound-decided (holding (removeLinks l (m .table))) .0 (ap ofLinks.isSound (sym (left .1)) ∙ left .0))
+            (sound-decided (holding (removeLinks l (m .table))) .0 (remove-leaves (m .table) (f .full) l (remove-by-table e)))
             (λ i h. each-at (removeLinks l (m .table)) nothing i h (each-removed (m .table .links) (named m (f .sound)) l));
         full = refl;
       }

@@ -1,17 +1,18 @@
 -- The test refuses an unsound table, the judge the rest; else the link goes to the place where the search for it ended.
 use native.Mathlib.Omega.{arith}
 use Prim.Native.Nat.{ℕ, _≤_}
-use mathlib.Core.Path.{_≡_, sym, ap, _∙_}
+use mathlib.Core.Path.{_≡_, refl, sym, ap, _∙_}
 use mathlib.Core.Bool.{true}
 use lib.ListN.{length}
 use borrow.Author.Needs.{needs}
 use borrow.Author.Tests.{not-true, not-false}
 use Rattle.answers.specs.Answers.{refusal}
+use Rattle.answers.proofs.Rules.{refuse-with}
 use Rattle.link.specs.Link.{keyOf}
 use Rattle.table.specs.Links.{rank, heldOf}
 use Rattle.table.specs.Sound.{isSound}
-use Rattle.links.specs.Edits.{addChecks}
-use Rattle.links.proofs.Calls.{accepted, added-unsound, added-refused}
+use Rattle.links.specs.Edits.{addChecks, tableAdd}
+use Rattle.links.proofs.Calls.{not-sound, own-checks, accepted}
 use Rattle.links.proofs.Leaves.{place-low, added-at}
 use Rattle.laws.proofs.Fills.{long}
 use Rattle.table.proofs.Stores.{few, many}
@@ -39,10 +40,12 @@ low c =
     place-low (heldOf (one .before .before .args .table)) (one .before .before .args .link) (sound one) (full one) (searched (c .before .before))
 
 returns : tie.Need-returns
-returns c = sym (added-unsound _ _ (sym (c .before .is-sound .ensures) ∙ not-true _ (c .if1 .taken)))
+unfolding tableAdd
+returns c = not-sound _ _ _ refl (sym (c .before .is-sound .ensures) ∙ not-true _ (c .if1 .taken))
 
 returns-2 : tie.Need-returns-2
-returns-2 c = sym (added-refused _ _ (sound (c .before .before .before .before)) (c .before .judge-new .ensures) (c .if2 .taken))
+unfolding tableAdd
+returns-2 c = refuse-with _ _ _ (c .if2 .taken) (own-checks _ _ (sound (c .before .before .before .before)) ∙ sym (c .before .judge-new .ensures))
 
 with-at-requires : tie.Need-with-at-requires
 with-at-requires c κs =

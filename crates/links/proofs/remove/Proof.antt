@@ -1,16 +1,18 @@
 -- The test refuses an unsound table, and a link that is not where the search for it ended is not there; else the links after it move down.
 use native.Mathlib.Omega.{arith}
 use Prim.Native.Nat.{ℕ, _<_}
-use mathlib.Core.Path.{_≡_, sym, ap, _∙_}
-use mathlib.Core.Bool.{true}
+use mathlib.Core.Path.{_≡_, refl, sym, ap, _∙_}
+use mathlib.Core.Bool.{true, not}
 use lib.ListN.{length}
 use borrow.Author.Needs.{needs}
 use borrow.Author.Tests.{not-true, not-false}
+use Rattle.answers.proofs.Refusals.{refused-by}
+use Rattle.answers.proofs.Rules.{refuse}
 use Rattle.link.specs.Link.{keyOf}
 use Rattle.table.specs.Links.{rank, heldOf}
 use Rattle.table.specs.Sound.{isSound}
-use Rattle.links.specs.Edits.{isIn}
-use Rattle.links.proofs.Calls.{removed-unsound, removed-none}
+use Rattle.links.specs.Edits.{isIn, tableRemove}
+use Rattle.links.proofs.Calls.{not-sound, own-checks}
 use Rattle.links.proofs.Leaves.{place-below, removed-at}
 use Rattle.laws.proofs.Fills.{long}
 use Rattle.table.proofs.Stores.{few, many}
@@ -37,10 +39,15 @@ low c =
     place-below (heldOf (one .before .before .args .table)) (one .before .before .args .link) (sound one) (full one) (searched (c .before .before)) (there c)
 
 returns : tie.Need-returns
-returns c = sym (removed-unsound _ _ (sym (c .before .is-sound .ensures) ∙ not-true _ (c .if1 .taken)))
+unfolding tableRemove
+returns c = not-sound _ _ _ refl (sym (c .before .is-sound .ensures) ∙ not-true _ (c .if1 .taken))
 
 returns-2 : tie.Need-returns-2
-returns-2 c = sym (removed-none _ _ (sound (c .before .before .before .before)) (sym (c .before .holds .ensures) ∙ not-true _ (c .if2 .taken)))
+unfolding tableRemove
+returns-2 c =
+    refuse _ _ _
+    (own-checks _ _ (sound (c .before .before .before .before))
+    ∙ refused-by _ 5 _ (ap not (sym (c .before .holds .ensures) ∙ not-true _ (c .if2 .taken))))
 
 returns-3 : tie.Need-returns-3
 returns-3 c =

@@ -13,8 +13,8 @@ use Rattle.link.specs.Link.{nothing}
 use Rattle.table.specs.Links.{heldOf}
 use Rattle.table.specs.Sound.{isSound}
 use Rattle.table.proofs.Stores.{few}
-use Rattle.links.specs.Edits.{stays}
-use Rattle.links.proofs.Calls.{tag-unsound, tag-done}
+use Rattle.links.specs.Edits.{stays, tableDrop}
+use Rattle.links.proofs.Calls.{not-sound}
 use Rattle.links.proofs.Dropped.{Swept, swept-none, swept-turn, swept-all, one-place, one-move}
 use Rattle.links.proofs.remove_tag.Statement.{statement}
 use Rattle.links.proofs.remove_tag.Tie as tie
@@ -33,7 +33,8 @@ sound : (c : tie.Else1 Inv-loop μ-loop) → isSound (heldOf (c .before .before 
 sound c = sym (c .before .is-sound .ensures) ∙ not-false _ (c .if1 .left)
 
 returns : tie.Need-returns Inv-loop μ-loop
-returns c = sym (tag-unsound _ _ (sym (c .before .is-sound .ensures) ∙ not-true _ (c .if1 .taken)))
+unfolding tableDrop
+returns c = not-sound _ _ _ refl (sym (c .before .is-sound .ensures) ∙ not-true _ (c .if1 .taken))
 
 loop-holds : tie.Need-loop-holds Inv-loop μ-loop
 loop-holds c = swept-none (c .before .before .args .tag) (c .before .before .args .t1) (whole (c .before .before))
@@ -65,7 +66,6 @@ returns-2 c =
     let at = c .before in
     let start = at .before .before .before in
     swept-all (start .args .tag) (start .args .t1) (whole start) (few _ (sound (at .before))) (at .loop .inv) (sound (at .before)) (c .loop-test .left)
-    ∙ sym (tag-done _ _ (sound (at .before)))
 
 pub remove-tag-spec : {M : Type 1} → statement M
 remove-tag-spec =
