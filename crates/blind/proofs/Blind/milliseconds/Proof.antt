@@ -52,6 +52,7 @@ milliseconds-spec =
     (tie.spec
     (λ c. search needs) (λ c κs. search needs) (λ c. search needs) (λ c κs. search needs) (λ c. search needs) (λ c κs. search needs)
     (λ c κs. search needs) (λ c κs. search needs) (λ c. search needs) (λ c. search needs) (λ c κs. search needs)
-    (λ c. search needs) (λ c. search needs)
+    (λ c. c .one-by-one .ensures)
+    (λ c. c .one-by-one2 .ensures)
     returns-3
     returns-4)

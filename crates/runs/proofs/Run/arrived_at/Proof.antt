@@ -10,4 +10,5 @@ arrived-at-spec =
     (tie.spec
     (λ c. search needs) (λ c κs. search needs) (λ c. search needs) (λ c. search needs)
     (λ c. simp (c .end .ensures, c .before .enum-told .given .1))
-    (λ c. search needs) (λ c. search needs))
+    (λ c. simp (c .enum-told2 .given .1))
+    (λ c. simp (c .enum-told3 .given .1)))
