@@ -12,7 +12,7 @@ use Rattle.panel.specs.Sound.{Tagged}
 use Rattle.panel.specs.Calls.{Cells}
 use Rattle.panel.proofs.Exact.{checks-told}
 use Rattle.seats.proofs.Exact.{or, has-decides, busy-decides, used-decides}
-use Rattle.edits.specs.Edits.{installRule, namedChecks, removeRule, writeRule}
+use Rattle.edits.specs.Edits.{installRule, removeRule, writeRule}
 use Rattle.edits.specs.Cases.{installCases, removeCases, writeCases}
 
 module _ (m : Model) (cells : Cells) (tagged : Tagged m) (tag : ℕ) where

@@ -1,11 +1,11 @@
 -- What is so of an edit of a blind where no check refuses. Assumes nothing.
-use Prim.Native.Nat.{ℕ, _+_, _<_}
-use mathlib.Core.Path.{_≡_}
+use Prim.Native.Nat.{ℕ, _+_, _≤_, _<_}
+use mathlib.Core.Path.{_≡_, refl, ap, _∙_}
 use mathlib.Core.Bool.{Bool, true, false, not, _||_}
 use mathlib.Core.List.{List, [], _∷_}
 use lib.Dec.{leb}
-use borrow.Author.Tests.{leb-false, not-false}
-use Rattle.laws.proofs.Any.{neither-left, neither-right}
+use borrow.Author.Tests.{le-leb, lt-leb, leb-false, not-false}
+use Rattle.laws.proofs.Any.{either-left, either-right, neither-left, neither-right}
 use Rattle.answers.specs.Answers.{refusal}
 use Rattle.answers.proofs.Refusals.{all-passed}
 use Rattle.tags.specs.Tags.{places}
@@ -29,6 +29,21 @@ module _ (tag terminal : ℕ) (a : List ℕ) where
     pub tag-low : tag < places
     pub terminal-low : terminal < terminals
     pub fair : allowed a ≡ true
+
+  -- the terminal is outside, or what write parameters asks for too
+  pub beyond-terminal : terminals ≤ terminal → beyond ≡ true
+  beyond-terminal h = either-right (leb places tag) _ (either-left (leb terminals terminal) _ (le-leb terminals terminal h))
+
+  pub beyond-asked : leb places tag || not (allowed a) ≡ true → beyond ≡ true
+  beyond-asked = go (leb places tag)
+    where
+      go : (b : Bool) → b || not (allowed a) ≡ true → b || (leb terminals terminal || not (allowed a)) ≡ true
+      go true e = refl
+      go false e = either-right (leb terminals terminal) (not (allowed a)) e
+
+  -- neither
+  pub within : terminal < terminals → leb places tag || not (allowed a) ≡ false → beyond ≡ false
+  within h e = ap (λ (b : Bool). leb places tag || (b || not (allowed a))) (lt-leb terminals terminal h) ∙ e
 
   pub inside : beyond ≡ false → Inside
   inside e =

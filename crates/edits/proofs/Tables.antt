@@ -1,11 +1,10 @@
 -- The table that an edit of a blind leaves: remove blind drops the links of its tag, counts by places, and what is left is the
 -- one that its links give afresh; the other edits leave it as it was. Assumes nothing.
 use Prim.Native.Nat.{ℕ}
-use mathlib.Core.Path.{_≡_, sym, ap, _∙_}
+use mathlib.Core.Path.{_≡_, refl}
 use mathlib.Core.List.{List, List·Permᴰ}
 use Rattle.answers.specs.Answers.{refusal}
-use Rattle.answers.specs.Rules.{Result, carried}
-use Rattle.answers.proofs.Rules.{done}
+use Rattle.answers.specs.Rules.{carried}
 use Rattle.link.specs.declared.Link.{Link}
 use Rattle.link.specs.Link.{keyOf}
 use Rattle.links.specs.Edits.{moved, tagLinks}
@@ -13,6 +12,7 @@ use Rattle.panel.specs.Panel.{Model, reseated}
 use Rattle.panel.specs.Sound.{Fine}
 use Rattle.panel.specs.Calls.{Cells}
 use Rattle.wiring.specs.Afresh.{Rebuilt}
+use Rattle.wiring.proofs.Moved.{counts-moved}
 use Rattle.wiring.proofs.Rebuilt.{rebuilt}
 use Rattle.edits.specs.Edits.{installRule, removeRule, writeRule}
 use Rattle.edits.proofs.Soundness.{install-keeps, write-keeps, remove-keeps}
@@ -22,9 +22,7 @@ module _ (m : Model) (cells : Cells) (tag : ℕ) where
   pub remove-moved : carried (removeRule tag) m cells .answer ≡ 0
       → carried (removeRule tag) m cells .count ≡ moved keyOf (m .table .links) (carried (removeRule tag) m cells .leaves .table .links)
   unfolding removeRule
-  remove-moved e =
-      let all = done (removeRule tag) m cells e in
-      ap (λ (r : Result Model Cells). r .count) all ∙ sym (ap (λ (r : Result Model Cells). moved keyOf (m .table .links) (r .leaves .table .links)) all)
+  remove-moved = counts-moved m cells (removeRule tag) refl
 
   module _ (f : Fine m) (order : List Link) where
     -- from the surviving links

@@ -1,5 +1,5 @@
-// Document 01, "Edits" of a blind: install, remove, write parameters. Each call makes its tests in its own body, in the
-// paper's order, and works on its own panel. Removing a blind leaves the judging of the table to the table's own edit.
+// Document 01, "Edits" of a blind: install, remove, write parameters. Each call works on its own panel; what judges gets
+// numbers and single blinds. The place of a tag outside its range is that of another, which is then not looked at.
 use answers::ALREADY_THERE;
 use answers::BUSY;
 use answers::DONE;
@@ -8,22 +8,27 @@ use answers::NOT_SOUND;
 use answers::OUT_OF_RANGE;
 use answers::TERMINAL_IN_USE;
 use blind::Blind;
+use links::Edited;
 use links::remove_tag;
 use panel::Panel;
 use panel::calls::Answered;
 use panel::soundness::all_named;
 use params::Asked;
 use seats::TERMINALS;
+use table::Table;
+use tags::CELLS;
 use tags::PLACES;
 use tags::Tags;
 ghost use mathlib.Core.Path.{_≡_};
-ghost use mathlib.Core.Bool.{not, _||_};
+ghost use mathlib.Core.Bool.{not, cond, _||_};
 ghost use mathlib.Core.List.{[], _∷_};
 ghost use lib.Dec.{leb};
-ghost use Rattle.answers.specs.Answers.{refusal};
+ghost use Rattle.answers.specs.Answers.{first, refusal};
 ghost use Rattle.outputs.specs.Reports.{busy};
 ghost use Rattle.tags.specs.Tags.{places, tagsOf};
-ghost use Rattle.panel.specs.Calls.{noCells, Does};
+ghost use Rattle.table.specs.Links.{heldOf};
+ghost use Rattle.links.specs.Edits.{unsound, tableDrop, edited, editedOf};
+ghost use Rattle.panel.specs.Calls.{outside, noCells, Does};
 ghost use Rattle.panel.specs.Strip.{terminals};
 ghost use Rattle.params.specs.Numbers.{rowOf, allowed};
 ghost use Rattle.edits.specs.Edits.{installRule, removeRule, writeRule};
@@ -32,29 +37,16 @@ ghost use Rattle.edits.specs.Edits.{installRule, removeRule, writeRule};
 pub fn install(mut panel: Panel, tag: u64, terminal: u64, asked: Asked) -> Answered
     ensures { λ r. ⌜ Does (installRule tag terminal (rowOf asked)) panel noCells r noCells ⌝ }
 {
-    if !panel.is_sound() {
-        return Answered {
-            answer: NOT_SOUND,
-            count: 0,
-            panel,
-        };
-    }
-    if is_outside(tag, terminal, asked) {
-        return Answered {
-            answer: OUT_OF_RANGE,
-            count: 0,
-            panel,
-        };
-    }
     let present = panel.present;
-    if present.has(tag) {
+    let answer = judge_new(panel.is_sound(), present, tag, terminal, asked);
+    if answer != DONE {
         return Answered {
-            answer: ALREADY_THERE,
+            answer,
             count: 0,
             panel,
         };
     }
-    for other in 0..64 {
+    for other in 0..CELLS {
         let used = panel.terminals[other];
         if seats::stands_within(present, other, used, terminal, terminal + 1) {
             return Answered {
@@ -89,26 +81,12 @@ pub fn remove_blind(mut panel: Panel, tag: u64) -> Answered
         };
     }
     let present = panel.present;
-    let table = panel.table;
-    let edited = remove_tag(table, tag);
-    let sound = (edited.answer != NOT_SOUND) & all_named(present, table);
-    if !sound {
-        return Answered {
-            answer: NOT_SOUND,
-            count: 0,
-            panel,
-        };
-    }
-    if PLACES <= tag {
-        return Answered {
-            answer: OUT_OF_RANGE,
-            count: 0,
-            panel,
-        };
-    }
-    let place = tag as usize;
+    let place = (tag % PLACES) as usize;
     let blind = panel.blinds[place];
-    let answer = judge_named(present, tag, blind);
+    let own = judge_named(PLACES <= tag, present, tag, blind);
+    let table = panel.table;
+    let edited = drop_links(own, table, tag);
+    let answer = if_sound(all_named(present, table), edited.answer);
     if answer != DONE {
         return Answered {
             answer,
@@ -138,16 +116,9 @@ pub fn write_params(mut panel: Panel, tag: u64, asked: Asked) -> Answered
             panel,
         };
     }
-    if is_beyond(tag, asked) {
-        return Answered {
-            answer: OUT_OF_RANGE,
-            count: 0,
-            panel,
-        };
-    }
-    let place = tag as usize;
+    let place = (tag % PLACES) as usize;
     let blind = panel.blinds[place];
-    let answer = judge_named(panel.present, tag, blind);
+    let answer = judge_named(is_outside(tag, asked), panel.present, tag, blind);
     if answer != DONE {
         return Answered {
             answer,
@@ -164,19 +135,27 @@ pub fn write_params(mut panel: Panel, tag: u64, asked: Asked) -> Answered
     }
 }
 
-fn is_outside(tag: u64, terminal: u64, asked: Asked) -> bool
-    ensures { λ r. ⌜ r ≡ (leb places tag || (leb terminals terminal || not (allowed (rowOf asked)))) ⌝ }
+// What refuses a new blind before the terminals are looked through.
+fn judge_new(sound: bool, present: Tags, tag: u64, terminal: u64, asked: Asked) -> u8
+    ensures { λ r. ⌜ r ≡ refusal ((not sound, 12) ∷ outside (leb places tag || (leb terminals terminal || not (allowed (rowOf asked)))) ∷ (tagsOf present tag, 4) ∷ []) ⌝ }
 {
-    if PLACES <= tag {
-        return true;
+    if !sound {
+        return NOT_SOUND;
+    }
+    if is_outside(tag, asked) {
+        return OUT_OF_RANGE;
     }
     if TERMINALS <= terminal {
-        return true;
+        return OUT_OF_RANGE;
     }
-    !asked.in_range()
+    if present.has(tag) {
+        ALREADY_THERE
+    } else {
+        DONE
+    }
 }
 
-fn is_beyond(tag: u64, asked: Asked) -> bool
+fn is_outside(tag: u64, asked: Asked) -> bool
     ensures { λ r. ⌜ r ≡ (leb places tag || not (allowed (rowOf asked))) ⌝ }
 {
     if PLACES <= tag {
@@ -185,10 +164,14 @@ fn is_beyond(tag: u64, asked: Asked) -> bool
     !asked.in_range()
 }
 
-// What refuses a blind that is named, from what stands at its place: it is not there, or it is busy.
-fn judge_named(present: Tags, tag: u64, blind: Blind) -> u8
-    ensures { λ r. ⌜ r ≡ refusal ((not (tagsOf present tag), 2) ∷ (busy blind, 3) ∷ []) ⌝ }
+// What refuses a blind that is named, from what stands at its place: an argument is outside its range, the blind is not
+// there, or it is busy.
+fn judge_named(out: bool, present: Tags, tag: u64, blind: Blind) -> u8
+    ensures { λ r. ⌜ r ≡ refusal (outside out ∷ (not (tagsOf present tag), 2) ∷ (busy blind, 3) ∷ []) ⌝ }
 {
+    if out {
+        return OUT_OF_RANGE;
+    }
     if !present.has(tag) {
         return NO_BLIND;
     }
@@ -196,4 +179,24 @@ fn judge_named(present: Tags, tag: u64, blind: Blind) -> u8
         return BUSY;
     }
     DONE
+}
+
+// The table's own edit, which judges the table; where the blind refuses there is no edit, and the table is only judged.
+fn drop_links(own: u8, table: Table, tag: u64) -> Edited
+    ensures { λ r. ⌜ (r .answer ≡ first own (unsound (heldOf table) ∷ [])) × (own ≡ 0 → editedOf r ≡ edited (tableDrop tag) (heldOf table)) ⌝ }
+{
+    if own == DONE {
+        return remove_tag(table, tag);
+    }
+    Edited {
+        answer: if_sound(table.is_sound(), own),
+        moved: 0,
+        table,
+    }
+}
+
+fn if_sound(sound: bool, answer: u8) -> u8
+    ensures { λ r. ⌜ r ≡ cond sound answer 12 ⌝ }
+{
+    if sound { answer } else { NOT_SOUND }
 }

@@ -3,9 +3,8 @@
 use Prim.Native.Nat.{ℕ, _+_, _-_}
 use native.Mathlib.Omega.{arith}
 use mathlib.Core.Path.{_≡_, refl, sym, ap, _∙_, fun-ext}
-use mathlib.Core.Bool.{Bool, true, false, cond}
+use mathlib.Core.Bool.{Bool, true, false}
 use mathlib.Core.List.{[], _∷_}
-use lib.Dec.{leb}
 use Rattle.laws.proofs.Choices.{is-false}
 use Rattle.answers.specs.Answers.{first, refusal}
 use Rattle.panel.specs.Panel.{Model}

@@ -10,6 +10,7 @@ use answers::TERMINAL_IN_USE;
 use panel::Panel;
 use panel::calls::Answered;
 use seats::TERMINALS;
+use tags::CELLS;
 use tags::Tags;
 ghost use Prim.Native.Nat.{_+_, _≤_, _<_};
 ghost use mathlib.Core.Path.{_≡_};
@@ -70,7 +71,7 @@ fn judge(panel: Panel, t: u64, n: u64, up: u64, down: u64) -> u8
     let mut used = false;
     let mut busy = false;
     let mut past = false;
-    for tag in 0..64 {
+    for tag in 0..CELLS {
         let terminal = panel.terminals[tag];
         let blind = panel.blinds[tag];
         used = used | seats::stands_within(present, tag, terminal, t, from);
@@ -107,7 +108,14 @@ fn is_off_strip(t: u64, n: u64) -> bool
 }
 
 // The terminals of the present tags move if nothing refuses.
-fn shift_all(answer: u8, present: Tags, terminals: [u8; 64], t: u64, up: u64, down: u64) -> [u8; 64]
+fn shift_all(
+    answer: u8,
+    present: Tags,
+    terminals: [u8; CELLS],
+    t: u64,
+    up: u64,
+    down: u64,
+) -> [u8; CELLS]
     requires { ⌜ (answer ≡ 0 → Room (tagsOf present) terminals t up down) ⌝ }
     ensures { λ r. ⌜ r ≡ cond (eqb answer 0) (shiftedPlaces (tagsOf present) (moved t up down) terminals) terminals ⌝ }
 {
@@ -115,7 +123,7 @@ fn shift_all(answer: u8, present: Tags, terminals: [u8; 64], t: u64, up: u64, do
     if answer != DONE {
         return next;
     }
-    for tag in 0..64 {
+    for tag in 0..CELLS {
         let terminal = terminals[tag];
         next[tag] = shift(present, tag, terminal, t, up, down);
     }

@@ -1,5 +1,4 @@
 -- One test for each of the three, in their order.
-use borrow.Author.Needs.{needs}
 use Rattle.answers.specs.Answers.{first}
 use Rattle.splices.proofs.first_met.Statement.{statement}
 use Rattle.splices.proofs.first_met.Tie as tie

@@ -1,7 +1,7 @@
 -- The first two tests answer the checks that all calls share; the pass over the tags finds out what the other three ask.
 use Prim.Native.Nat.{_+_, _-_, _≤_}
 use native.Mathlib.Omega.{arith}
-use mathlib.Core.Path.{_≡_, refl, sym, _∙_}
+use mathlib.Core.Path.{_≡_, sym, _∙_}
 use mathlib.Core.Bool.{Bool, true, false}
 use mathlib.Core.List.{[], _∷_}
 use borrow.Author.Needs.{needs}

@@ -9,6 +9,5 @@ is-outside-spec =
     tie.close
     (tie.spec
     (λ c. simp (le-leb _ _ (c .if1 .taken)))
-    (λ c. simp (le-leb _ _ (c .if2 .taken), lt-leb _ _ (c .before .if1 .left)))
     (λ c κs. search needs)
-    (λ c. simp (c .in-range .ensures, lt-leb _ _ (c .before .if2 .left), lt-leb _ _ (c .before .before .if1 .left))))
+    (λ c. simp (c .in-range .ensures, lt-leb _ _ (c .before .if1 .left))))
