@@ -51,11 +51,8 @@ pub fn report(before: Blind, after: Blind) -> u64
 pub fn cell(there: bool, before: Blind, after: Blind) -> u64
     ensures { λ r. ⌜ r ≡ cond there (report before after) noReport ⌝ }
 {
-    if there {
-        report(before, after)
-    } else {
-        NO_REPORT as u64
-    }
+    let none = NO_REPORT as u64;
+    if there { report(before, after) } else { none }
 }
 
 // Running or waiting.

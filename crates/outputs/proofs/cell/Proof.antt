@@ -7,6 +7,6 @@ pub cell-spec : {M : Type 1} → statement M
 cell-spec =
     tie.close
     (tie.spec
-    (λ c κs. search needs) (λ c. search needs)
+    (λ c. search needs) (λ c κs. search needs)
     (λ c. simp (c .report .ensures, c .before .if1 .taken))
     (λ c. simp (c .if1 .left)))

@@ -1,6 +1,5 @@
 -- The two tests of the definition, one after the other.
-use mathlib.Core.Path.{sym, ap, _∙_}
-use mathlib.Core.Bool.{not, _||_}
+use mathlib.Core.Path.{sym, _∙_}
 use borrow.Author.Needs.{needs}
 use borrow.Author.Tests.{not-true, not-false}
 use Rattle.telegrams.specs.Telegrams.{isOutside}

@@ -1,14 +1,18 @@
 -- The numbers first; then the span of the address tells whether it has a link, and its first link the class.
+use Prim.Native.Nat.{ℕ}
 use native.Mathlib.Omega.{arith}
 use mathlib.Core.Path.{_≡_, sym, _∙_}
 use mathlib.Core.Bool.{false}
+use mathlib.Core.List.{_∷_}
 use lib.ListN.{length}
 use borrow.Author.Needs.{needs}
+use Rattle.answers.specs.Answers.{refusal}
 use Rattle.answers.proofs.Refusals.{refused-by}
 use Rattle.laws.proofs.Fills.{long}
 use Rattle.table.specs.Links.{heldOf}
 use Rattle.table.proofs.Stores.{few}
-use Rattle.telegrams.specs.Telegrams.{isOutside}
+use Rattle.panel.specs.Calls.{outside}
+use Rattle.telegrams.specs.Telegrams.{isOutside, linkChecks}
 use Rattle.telegrams.proofs.Ranges.{inside}
 use Rattle.telegrams.proofs.Reached.{first-held, no-link, not-of-class, of-class, links-decide}
 use Rattle.telegrams.proofs.judge.Statement.{statement}
@@ -25,14 +29,16 @@ within c = sym (c .before .is-outside .ensures) ∙ c .if1 .left
 room : (c : tie.Start) → length (c .args .t1 .links) ≡ 512
 room c = search (long, needs)
 
+-- past the range the links decide
+decided : (c : tie.Else1) {n : ℕ} → refusal (linkChecks (c .before .before .args .address) (c .before .before .args .value) (heldOf (c .before .before .args .t1) .links)) ≡ n
+    → n ≡ refusal (outside (isOutside (c .before .before .args .address) (c .before .before .args .value)) ∷ linkChecks (c .before .before .args .address) (c .before .before .args .value) (heldOf (c .before .before .args .t1) .links))
+decided c = links-decide (c .before .before .args .address) (c .before .before .args .value) (heldOf (c .before .before .args .t1) .links) (within c)
+
 returns-2 : tie.Need-returns-2
 returns-2 c =
     let start = c .before .before .before .before in
-    let span = c .before .of .ensures in (
-      links-decide (start .args .address) (start .args .value) (heldOf (start .args .t1) .links) (within (c .before .before))
-          (no-link (start .args .t1) (start .args .address) (start .pre) (room start) (span .from) (span .counted) (start .args .value) (c .if2 .taken)),
-      λ e. absurd (omega arith),
-    )
+    let span = c .before .of .ensures in
+    (decided (c .before .before) (no-link (start .args .t1) (start .args .address) (start .pre) (room start) (span .from) (span .counted) (start .args .value) (c .if2 .taken)), λ e. absurd (omega arith))
 
 -- the first link of the address is in the table
 first-in : tie.Need-element-copy-out-first
@@ -44,22 +50,14 @@ first-in c =
 returns-3 : tie.Need-returns-3
 returns-3 c =
     let start = c .before .before .before .before .before .before .before in
-    let span = c .before .before .before .before .of .ensures in (
-      links-decide (start .args .address) (start .args .value) (heldOf (start .args .t1) .links) (within (c .before .before .before .before .before))
-          (not-of-class (start .args .t1) (start .args .address) (start .pre) (room start) (span .from) (span .counted) (c .before .before .before .if2 .left)
-          (start .args .value) (c .before .class .ensures) (c .if3 .taken)),
-      λ e. absurd (omega arith),
-    )
+    let span = c .before .before .before .before .of .ensures in
+    (decided (c .before .before .before .before .before) (not-of-class (start .args .t1) (start .args .address) (start .pre) (room start) (span .from) (span .counted) (c .before .before .before .if2 .left) (start .args .value) (c .before .class .ensures) (c .if3 .taken)), λ e. absurd (omega arith))
 
 returns-4 : tie.Need-returns-4
 returns-4 c =
     let start = c .before .before .before .before .before .before .before in
-    let span = c .before .before .before .before .of .ensures in (
-      links-decide (start .args .address) (start .args .value) (heldOf (start .args .t1) .links) (within (c .before .before .before .before .before))
-          (of-class (start .args .t1) (start .args .address) (start .pre) (room start) (span .from) (span .counted) (c .before .before .before .if2 .left)
-          (start .args .value) (c .before .class .ensures) (c .if3 .left)),
-      λ e. span,
-    )
+    let span = c .before .before .before .before .of .ensures in
+    (decided (c .before .before .before .before .before) (of-class (start .args .t1) (start .args .address) (start .pre) (room start) (span .from) (span .counted) (c .before .before .before .if2 .left) (start .args .value) (c .before .class .ensures) (c .if3 .left)), λ e. span)
 
 pub judge-spec : {M : Type 1} → statement M
 judge-spec =
