@@ -5,6 +5,7 @@ use link::Link;
 use panel::Panel;
 use shows::numbers::put_spaced;
 use table::Table;
+use tags::CELLS;
 use tags::Tags;
 use texts::lines::least;
 use texts::sheets::put_text;
@@ -19,7 +20,6 @@ ghost use Rattle.blind_text.specs.BlindText.{blindText};
 ghost use Rattle.panel_text.specs.PanelText.{seatText, linkText, linksText, panelText};
 
 // One place for each tag.
-const PLACES: usize = 64;
 
 // As many links as the table has places for.
 const LINKS: usize = 512;
@@ -37,7 +37,7 @@ fn put_blinds(out: &mut [u8], at: usize, panel: Panel) -> usize
 {
     let present = panel.present;
     let mut next = at;
-    for tag in 0..PLACES {
+    for tag in 0..CELLS {
         let terminal = panel.terminals[tag];
         let blind = panel.blinds[tag];
         next = put_seat(out, next, present, tag, terminal, blind);

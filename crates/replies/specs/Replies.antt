@@ -57,7 +57,7 @@ abbrev pub inventoried : Result Model Cells → Sheet → Desk
 inventoried r = wrote (r .leaves) (joined (decimal (r .answer) ∷ spaced (r .count) ∷ spaced (r .second) ∷ []))
 
 -- The rule of an edit.
-unfoldable pub editRule : Edit → CallRule
+abbrev pub editRule : Edit → CallRule
 editRule (Edit.Install tag terminal set) = installRule tag terminal (rowOf set)
 editRule (Edit.Remove tag) = removeRule tag
 editRule (Edit.Params tag set) = writeRule tag (rowOf set)

@@ -1,5 +1,8 @@
 // A command carried out: the panel's own call, and its answer on the sheet.
 use crate::After;
+use crate::motors::OFF;
+use crate::motors::STRIP;
+use crate::motors::widened;
 use commands::Command;
 use commands::Edit;
 use decimals::put_number;
@@ -12,13 +15,12 @@ use panel::calls::Answered;
 use panel_text::put_panel;
 use readings::inventory::inventory;
 use readings::strips::strip;
-use shows::cells::OFF;
-use shows::cells::put_with_motors;
-use shows::cells::put_with_reports;
+use shows::cells::put_with_cells;
 use shows::numbers::put_counted;
 use shows::numbers::put_spaced;
 use splices::splice_in;
 use splices::splice_out;
+use tags::CELLS;
 use telegrams::telegram;
 use texts::sheets::put_text;
 use time_steps::time_step;
@@ -30,6 +32,8 @@ ghost use Rattle.answers.specs.Rules.{carried};
 ghost use Rattle.panel.specs.Calls.{noCells, handed};
 ghost use Rattle.texts.specs.Sheet.{sheet};
 ghost use Rattle.replies.specs.Replies.{deskOf, edited, editRule, carriedOut};
+
+// One cell for each tag.
 
 pub(crate) fn carry_out(panel: Panel, command: Command, out: &mut [u8], at: usize) -> After
     ensures { λ r. ⌜ deskOf r (now (out .exit)) ≡ carriedOut command (modelOf panel) (sheet (now (out .entry)) at) ⌝ }
@@ -98,9 +102,9 @@ fn take_inventory(panel: Panel, out: &mut [u8], at: usize) -> After
 fn send(panel: Panel, address: u64, value: u64, out: &mut [u8], at: usize) -> After
     ensures { λ r. ⌜ deskOf r (now (out .exit)) ≡ carriedOut (Command.Tel address value) (modelOf panel) (sheet (now (out .entry)) at) ⌝ }
 {
-    let mut cells = [NO_REPORT; 64];
+    let mut cells = [NO_REPORT; CELLS];
     let done = telegram(panel, address, value, &mut cells);
-    let next = put_with_reports(out, at, done.answer, done.count, &cells);
+    let next = put_with_cells(out, at, done.answer, done.count, NO_REPORT, &cells);
     let left = done.panel;
     After {
         panel: left,
@@ -111,9 +115,9 @@ fn send(panel: Panel, address: u64, value: u64, out: &mut [u8], at: usize) -> Af
 fn pass(panel: Panel, dt: u64, out: &mut [u8], at: usize) -> After
     ensures { λ r. ⌜ deskOf r (now (out .exit)) ≡ carriedOut (Command.Time dt) (modelOf panel) (sheet (now (out .entry)) at) ⌝ }
 {
-    let mut cells = [NO_REPORT; 64];
+    let mut cells = [NO_REPORT; CELLS];
     let done = time_step(panel, dt, &mut cells);
-    let next = put_with_reports(out, at, done.answer, done.count, &cells);
+    let next = put_with_cells(out, at, done.answer, done.count, NO_REPORT, &cells);
     let left = done.panel;
     After {
         panel: left,
@@ -124,9 +128,10 @@ fn pass(panel: Panel, dt: u64, out: &mut [u8], at: usize) -> After
 fn read_strip(panel: Panel, out: &mut [u8], at: usize) -> After
     ensures { λ r. ⌜ deskOf r (now (out .exit)) ≡ carriedOut Command.Strip (modelOf panel) (sheet (now (out .entry)) at) ⌝ }
 {
-    let mut cells = [OFF; 128];
+    let mut cells = [OFF; STRIP];
     let done = strip(panel, &mut cells);
-    let next = put_with_motors(out, at, done.answer, done.count, &cells);
+    let shown = widened(cells);
+    let next = put_with_cells(out, at, done.answer, done.count, OFF as u16, &shown);
     let left = done.panel;
     After {
         panel: left,

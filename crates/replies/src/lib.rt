@@ -2,6 +2,7 @@
 // nothing and is answered all the same.
 mod calls;
 pub mod lines;
+mod motors;
 
 use panel::Panel;
 

@@ -37,18 +37,12 @@ fn call(panel: Panel, command: Command, out: &mut [u8], at: usize) -> After
 fn complain(panel: Panel, number: u64, fault: Fault, out: &mut [u8], at: usize) -> After
     ensures { λ r. ⌜ deskOf r (now (out .exit)) ≡ ended (wrote (modelOf panel) (errorText number fault) (sheet (now (out .entry)) at)) ⌝ }
 {
-    let error = put_error(out, at, number, fault);
-    let next = put_text(out, error, b"\n");
-    After { panel, at: next }
-}
-
-fn put_error(out: &mut [u8], at: usize, number: u64, fault: Fault) -> usize
-    ensures { λ r. ⌜ sheet (now (out .exit)) r ≡ puts (errorText number fault) (sheet (now (out .entry)) at) ⌝ }
-{
     let head = put_text(out, at, b"error: line ");
     let line = put_number(out, head, number);
     let middle = put_text(out, line, b": ");
-    put_fault(out, middle, fault)
+    let error = put_fault(out, middle, fault);
+    let next = put_text(out, error, b"\n");
+    After { panel, at: next }
 }
 
 fn put_fault(out: &mut [u8], at: usize, fault: Fault) -> usize

@@ -1,7 +1,7 @@
 -- A line as words: "words are parted by one or more spaces or tabs".
 -- Assumes nothing.
 use Prim.Native.Nat.{ℕ, zero, suc}
-use mathlib.Core.Bool.{Bool, true, cond, not, _||_}
+use mathlib.Core.Bool.{Bool, true, false, cond, not, _||_}
 use mathlib.Core.List.{List, [], _∷_}
 use lib.Dec.{eqb}
 
@@ -31,10 +31,15 @@ unfoldable pub front : (ℕ → Bool) → List ℕ → ℕ
 front passes [] = zero
 front passes (byte ∷ bytes) = cond (passes byte) (suc (front passes bytes)) zero
 
+-- Whether a byte belongs to a word, or to the blanks between words.
+abbrev pub belongs : Bool → ℕ → Bool
+belongs true byte = not (isBlank byte)
+belongs false byte = isBlank byte
+
 -- How many blanks stand at the front.
 abbrev pub blanks : List ℕ → ℕ
-blanks = front isBlank
+blanks = front (belongs false)
 
 -- How many bytes stand before the first blank.
 abbrev pub letters : List ℕ → ℕ
-letters = front (λ byte. not (isBlank byte))
+letters = front (belongs true)

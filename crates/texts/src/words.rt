@@ -3,7 +3,7 @@ ghost use mathlib.Core.Path.{_≡_};
 ghost use Prim.Native.Nat.{_+_};
 ghost use lib.ListN.{drop};
 ghost use Rattle.texts.specs.Text.{same as ofText·same};
-ghost use Rattle.texts.specs.Words.{isBlank, blanks, letters};
+ghost use Rattle.texts.specs.Words.{front, belongs, blanks, letters};
 
 const SPACE: u8 = 32;
 
@@ -13,23 +13,23 @@ const TAB: u8 = 9;
 pub fn word_start(line: &[u8], from: usize) -> usize
     ensures { λ r. ⌜ r ≡ from + blanks (drop from (now (line .entry))) ⌝ }
 {
-    let mut at = from;
-    while at < line.len() {
-        if !is_blank(line[at]) {
-            break;
-        }
-        at += 1;
-    }
-    at
+    past(line, from, false)
 }
 
 // The place of the first blank from here on, or the end of the line.
 pub fn word_end(line: &[u8], from: usize) -> usize
     ensures { λ r. ⌜ r ≡ from + letters (drop from (now (line .entry))) ⌝ }
 {
+    past(line, from, true)
+}
+
+// Past the rest of a word, or past the blanks.
+fn past(line: &[u8], from: usize, word: bool) -> usize
+    ensures { λ r. ⌜ r ≡ from + front (belongs word) (drop from (now (line .entry))) ⌝ }
+{
     let mut at = from;
     while at < line.len() {
-        if is_blank(line[at]) {
+        if !is_part(line[at], word) {
             break;
         }
         at += 1;
@@ -37,13 +37,16 @@ pub fn word_end(line: &[u8], from: usize) -> usize
     at
 }
 
-fn is_blank(byte: u8) -> bool
-    ensures { λ r. ⌜ r ≡ isBlank byte ⌝ }
+fn is_part(byte: u8, word: bool) -> bool
+    ensures { λ r. ⌜ r ≡ belongs word byte ⌝ }
 {
     if byte == SPACE {
-        return true;
+        return !word;
     }
-    byte == TAB
+    if byte == TAB {
+        return !word;
+    }
+    word
 }
 
 // Whether a word is this one.

@@ -21,6 +21,9 @@ use std::num::wrapping_sub_u64;
 // Calls before this one find the blinds running, the others find them at rest.
 const FIRST_EDIT: u64 = 6;
 
+// Calls before this one are time steps, those from it on are telegrams: to one link, and to the shared ones.
+const FIRST_TELEGRAM: u64 = 3;
+
 // The call that reads the strip.
 const STRIP: u64 = 5;
 
@@ -85,20 +88,32 @@ impl Workload {
     }
 
     fn run_reported(self, panel: Panel, cells: &mut [u16]) -> Tally {
-        let turns = self.turns;
-        let call = self.call;
-        match call {
-            0 => time_steps(panel, self.or_outside(1, TOO_LONG), turns, cells),
-            1 => time_steps(panel, self.or_outside(1_000, TOO_LONG), turns, cells),
-            2 => time_steps(panel, self.or_outside(60_000, TOO_LONG), turns, cells),
-            3 => telegrams(
-                panel,
-                self.or_outside(alone(self.blinds, self.links), 0),
-                turns,
-                cells,
-            ),
-            _ => telegrams(panel, self.or_outside(SHARED, 0), turns, cells),
+        if self.call < FIRST_TELEGRAM {
+            time_steps(panel, self.time(), self.turns, cells)
+        } else {
+            telegrams(panel, self.address(), self.turns, cells)
         }
+    }
+
+    // How long each time step is.
+    fn time(self) -> u64 {
+        let call = self.call;
+        let dt = match call {
+            0 => 1,
+            1 => 1_000,
+            _ => 60_000,
+        };
+        self.or_outside(dt, TOO_LONG)
+    }
+
+    // Where each telegram goes.
+    fn address(self) -> u64 {
+        let address = if self.call == FIRST_TELEGRAM {
+            alone(self.blinds, self.links)
+        } else {
+            SHARED
+        };
+        self.or_outside(address, 0)
     }
 
     fn run_strips(self, panel: Panel) -> Tally {

@@ -13,10 +13,8 @@ use Rattle.blind_text.proofs.motions.put_off.Tie as tie
 returns : tie.Need-returns
 unfolding text tabulate motionText
 returns c =
-    let p3 = c .before .before in
-    let p2 = p3 .before .before .before .before .before in
-    let p1 = p2 .before .before .before .before in
-    put-joined _ _ (p3 .put-text2 .ensures ∙ ap (puts _) (p2 .put-number .ensures ∙ ap (puts _) (p1 .put-text .ensures)))
+    let middle = c .before .before .before .before .before .before .before in
+    put-joined _ _ (c .before .before .put-text2 .ensures ∙ ap (puts _) (middle .put-number .ensures ∙ ap (puts _) (middle .before .before .before .before .put-text .ensures)))
 
 pub put-off-spec : {M : Type 1} → statement M
 put-off-spec = tie.close (tie.spec (λ c. search needs) (λ c κs. search needs) (λ c κs. search needs) (λ c. search needs) (λ c κs. search needs) (λ c. search needs) returns)

@@ -1,22 +1,19 @@
--- The place, the sign, the cell.
+-- A cell that holds the idle value is left out.
 -- Assumes nothing.
-use mathlib.Core.Path.{ap, _∙_}
-use Rattle.laws.specs.Fills.{tabulate}
-use Rattle.texts.specs.Text.{text}
+use borrow.Author.Tests.{eq-eqb, ne-eqb}
 use Rattle.texts.specs.Sheet.{puts}
-use Rattle.texts.proofs.Sheet.{put-joined}
-use Rattle.shows.specs.Cells.{cellShown}
+use Rattle.shows.specs.Cells.{cellText}
 use borrow.Author.Needs.{needs}
 use Rattle.shows.proofs.cells.put_cell.Statement.{statement}
 use Rattle.shows.proofs.cells.put_cell.Tie as tie
 
 returns : tie.Need-returns
-unfolding text tabulate cellShown
-returns c =
-    let p3 = c .before .before in
-    let p2 = p3 .before .before .before .before in
-    let p1 = p2 .before .before .before .before .before in
-    put-joined _ _ (p3 .put-number .ensures ∙ ap (puts _) (p2 .put-text .ensures ∙ ap (puts _) (p1 .put-spaced .ensures)))
+unfolding cellText puts
+returns c = simp (eq-eqb _ _ (c .if1 .taken))
+
+returns-2 : tie.Need-returns-2
+unfolding cellText puts
+returns-2 c = simp (c .before .before .put-shown .ensures, ne-eqb _ _ (c .before .before .before .before .if1 .left))
 
 pub put-cell-spec : {M : Type 1} → statement M
-put-cell-spec = tie.close (tie.spec (λ c κs. search needs) (λ c. search needs) (λ c κs. search needs) (λ c κs. search needs) (λ c. search needs) returns)
+put-cell-spec = tie.close (tie.spec returns (λ c κs. search needs) (λ c. search needs) returns-2)
