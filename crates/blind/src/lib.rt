@@ -31,7 +31,7 @@ pub enum Motion {
 pub struct Blind {
     pub params: Params,
     pub flags: Flags,
-    pub place: Place,
     pub last: Last,
+    pub place: Place,
     pub motion: Motion,
 }

@@ -17,8 +17,8 @@ use Rattle.commands.specs.declared.Fault.{Fault}
 use Rattle.commands.specs.declared.Meaning.{Meaning}
 use Rattle.commands.specs.declared.names.Entry.{Entry}
 use Rattle.commands.specs.declared.arguments.Arguments.{Arguments}
-use Rattle.commands.specs.Names.{most, takes}
-use Rattle.commands.specs.Arguments.{nothing, oneMore, with, heard, valueAt}
+use Rattle.commands.specs.Names.{takes}
+use Rattle.commands.specs.Arguments.{most, nothing, oneMore, with, heard, valueAt}
 use Rattle.commands.specs.Lines.{called, judged}
 use Rattle.commands.proofs.Counting.{takes-few, takes-most}
 use Rattle.commands.proofs.WordByWord.{part, same-words, one-word}
@@ -113,12 +113,12 @@ by-place words h e = fun-ext (λ place.
 
 -- ---- so they are judged alike
 
-judged-alike : (entry : Entry) (count : ℕ) (numeric : Bool) (f g : ℕ → ℕ) → (count ≤ most → numeric ≡ true → f ≡ g)
+judged-alike : (entry : Entry) (count : ℕ) (numeric : Bool) (f g : ℕ → ℕ) → entry .plain + 6 ≤ most → (count ≤ most → numeric ≡ true → f ≡ g)
     → judged entry (min count (most + 1)) numeric f ≡ judged entry count numeric g
 unfolding judged
-judged-alike entry count numeric f g same =
-    ap (λ (t : Bool). choose (entry .known) t numeric (called (entry .name) (min count (most + 1)) f)) (takes-most entry count)
-    ∙ go (entry .known) (takes entry count) numeric (takes-few entry count) same
+judged-alike entry count numeric f g fits same =
+    ap (λ (t : Bool). choose (entry .known) t numeric (called (entry .name) (min count (most + 1)) f)) (takes-most entry count fits)
+    ∙ go (entry .known) (takes entry count) numeric (takes-few entry count fits) same
   where
     choose : Bool → Bool → Bool → Meaning → Meaning
     choose known taken all call =
@@ -135,14 +135,14 @@ judged-alike entry count numeric f g same =
         let small : count ≤ most = few refl in
         ap₂ (called (entry .name)) (omega arith) (same small refl)
 
-pub collected : (entry : Entry) (words : List (List ℕ))
+pub collected : (entry : Entry) (words : List (List ℕ)) → entry .plain + 6 ≤ most
     → judged entry (heard nothing words .count) (heard nothing words .numeric) (valueAt (heard nothing words))
     ≡ judged entry (length words) (every isNumber words) (λ place. getD (map valueOf words) place 0)
 unfolding nothing
-collected entry words =
+collected entry words fits =
     ap₂ (λ (count : ℕ) (numeric : Bool). judged entry count numeric (valueAt (heard nothing words)))
     (counted nothing words (omega arith) ∙ ap (λ (k : ℕ). min k (most + 1)) (omega arith)) (all-numbers nothing words)
-    ∙ judged-alike entry (length words) (every isNumber words) (valueAt (heard nothing words)) _ (by-place words)
+    ∙ judged-alike entry (length words) (every isNumber words) (valueAt (heard nothing words)) _ fits (by-place words)
 
 -- ---- the words of a line one after the other
 

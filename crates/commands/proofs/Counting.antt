@@ -1,43 +1,70 @@
 -- How many arguments a command takes: never more than are kept, so it is enough to count to one more.
 -- Assumes nothing.
 use Prim.Native.Nat.{ℕ, _+_, min, _≤_, _<_}
+use Prim.Native.String.{String}
 use native.Mathlib.Omega.{arith}
 use mathlib.Core.Path.{_≡_, refl, sym, ap, _∙_}
-use mathlib.Core.Bool.{Bool, true, false, _&&_, _||_}
+use mathlib.Core.Bool.{Bool, true, false, cond, _&&_, _||_}
+use mathlib.Core.List.{List, [], _∷_}
 use lib.Dec.{eqb, leb}
-use borrow.Author.Tests.{leb-true, leb-false, le-leb, lt-leb, eq-eqb, ne-eqb}
-use Rattle.laws.proofs.Choices.{both-left}
+use borrow.Author.Tests.{leb-true, leb-false, eqb-true, eq-eqb, ne-eqb}
+use Rattle.laws.specs.Every.{every}
+use Rattle.laws.proofs.Choices.{both-left, both-right}
+use Rattle.texts.specs.Text.{text, same}
 use Rattle.commands.specs.declared.names.Entry.{Entry}
-use Rattle.commands.specs.Names.{most, takes}
+use Rattle.commands.specs.Names.{table, entryFor, entryIn, entryOf, takes}
+use Rattle.commands.specs.Arguments.{most}
+
+-- ---- what the table says
+
+-- with a set of parameters behind them the arguments are still not more than are kept
+small : Entry → Bool
+small entry = leb (entry .plain + 6) most
+
+small-in : (rows : List (String × Entry)) (word : List ℕ) → every (λ row. small (row .1)) rows ≡ true → small (entryIn rows word) ≡ true
+unfolding small entryIn entryFor every
+small-in [] word e = refl
+small-in (row ∷ rows) word e = go (same word (text (row .0))) (small-in rows word (both-right (small (row .1)) _ e))
+  where
+    go : (t : Bool) → small (entryIn rows word) ≡ true → small (cond t (row .1) (entryIn rows word)) ≡ true
+    go true others = both-left (small (row .1)) _ e
+    go false others = others
+
+pub of-table : (word : List ℕ) → entryOf word .plain + 6 ≤ most
+unfolding small entryOf every
+of-table word = leb-true _ most (small-in table word refl)
+
+-- ---- so no command takes more
 
 module _ (entry : Entry) (count : ℕ) where
-  pub takes-few : takes entry count ≡ true → count ≤ most
+  pub takes-few : entry .plain + 6 ≤ most → takes entry count ≡ true → count ≤ most
   unfolding takes
-  takes-few e = leb-true count most (both-left (leb count most) (eqb count (entry .plain) || (entry .set && eqb count (entry .plain + 6))) e)
+  takes-few few e = go (eqb count (entry .plain)) refl e
+    where
+      go : (t : Bool) → eqb count (entry .plain) ≡ t → t || (entry .set && eqb count (entry .plain + 6)) ≡ true → count ≤ most
+      go true plain e = let same : count ≡ entry .plain = eqb-true _ _ plain in omega arith
+      go false plain e = let same : count ≡ entry .plain + 6 = eqb-true _ _ (both-right (entry .set) _ e) in omega arith
 
-  pub none-past : most < count → takes entry count ≡ false
-  unfolding takes
-  none-past h = ap (λ (t : Bool). t && (eqb count (entry .plain) || (entry .set && eqb count (entry .plain + 6)))) (lt-leb count most h)
+  pub none-past : entry .plain + 6 ≤ most → most < count → takes entry count ≡ false
+  none-past few h = go (takes entry count) refl
+    where
+      go : (t : Bool) → takes entry count ≡ t → t ≡ false
+      go true e = let most-of : count ≤ most = takes-few few e in absurd (omega arith)
+      go false e = refl
 
   -- the tests one after the other
-  six-more : Bool
-  six-more = eqb count (entry .plain + 6)
+  pub plain-taken : count ≡ entry .plain → true ≡ takes entry count
+  unfolding takes
+  plain-taken e = sym (ap (λ (t : Bool). t || (entry .set && eqb count (entry .plain + 6))) (eq-eqb count (entry .plain) e))
 
-  pub plain-taken : count ≤ most → count ≡ entry .plain → true ≡ takes entry count
-  unfolding takes six-more
-  plain-taken h e =
-      sym (ap (λ (t : Bool). t && (eqb count (entry .plain) || (entry .set && six-more))) (le-leb count most h)
-      ∙ ap (λ (t : Bool). t || (entry .set && six-more)) (eq-eqb count (entry .plain) e))
+  pub by-set : {set : Bool} → (count ≡ entry .plain → ⊥) → entry .set ≡ set → set && eqb count (entry .plain + 6) ≡ takes entry count
+  unfolding takes
+  by-set {set} other e =
+      sym (ap (λ (t : Bool). t || (entry .set && eqb count (entry .plain + 6))) (ne-eqb count (entry .plain) other)
+      ∙ ap (λ (t : Bool). t && eqb count (entry .plain + 6)) e)
 
-  pub by-set : {set : Bool} → count ≤ most → (count ≡ entry .plain → ⊥) → entry .set ≡ set → set && eqb count (entry .plain + 6) ≡ takes entry count
-  unfolding takes six-more
-  by-set {set} h other e =
-      sym (ap (λ (t : Bool). t && (eqb count (entry .plain) || (entry .set && six-more))) (le-leb count most h)
-      ∙ ap (λ (t : Bool). t || (entry .set && six-more)) (ne-eqb count (entry .plain) other)
-      ∙ ap (λ (t : Bool). t && six-more) e)
-
-pub takes-most : (entry : Entry) (count : ℕ) → takes entry (min count (most + 1)) ≡ takes entry count
-takes-most entry count = go (leb count most) refl
+pub takes-most : (entry : Entry) (count : ℕ) → entry .plain + 6 ≤ most → takes entry (min count (most + 1)) ≡ takes entry count
+takes-most entry count few = go (leb count most) refl
   where
     go : (t : Bool) → leb count most ≡ t → takes entry (min count (most + 1)) ≡ takes entry count
     go true e =
@@ -46,4 +73,4 @@ takes-most entry count = go (leb count most) refl
         ap (takes entry) all
     go false e =
         let many : most < count = leb-false count most e in
-        none-past entry (min count (most + 1)) (omega arith) ∙ sym (none-past entry count many)
+        none-past entry (min count (most + 1)) few (omega arith) ∙ sym (none-past entry count few many)

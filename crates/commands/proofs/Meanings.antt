@@ -19,6 +19,7 @@ use Rattle.commands.specs.Names.{entryOf}
 use Rattle.commands.specs.Arguments.{nothing, heard, valueAt}
 use Rattle.commands.specs.Lines.{judged, meaningOf}
 use Rattle.commands.proofs.WordByWord.{part, past-blanks, same-words, one-word, first-byte}
+use Rattle.commands.proofs.Counting.{of-table}
 use Rattle.commands.proofs.Collected.{collected}
 
 -- what the first word and the others mean, where the first may begin a comment
@@ -52,5 +53,5 @@ module _ (line : List ℕ) (start : ℕ) (begins : start ≡ 0 + blanks (drop 0 
   command-meant end h other ends of-name of-words e =
       e
       ∙ ap₂ (λ (n : Entry) (a : Arguments). judged n (a .count) (a .numeric) (valueAt a)) of-name of-words
-      ∙ collected (entryOf (part start end line)) (words (drop end line))
+      ∙ collected (entryOf (part start end line)) (words (drop end line)) (of-table (part start end line))
       ∙ sym (by-first end ends h ∙ ap (λ (t : Bool). chosen t (part start end line) (words (drop end line))) (ne-eqb _ _ other))

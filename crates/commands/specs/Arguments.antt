@@ -8,7 +8,10 @@ use lib.ListN.{getD, set, replicate}
 use Rattle.decimals.specs.declared.Number.{Number}
 use Rattle.decimals.specs.Decimals.{numberOf}
 use Rattle.commands.specs.declared.arguments.Arguments.{Arguments}
-use Rattle.commands.specs.Names.{most}
+
+-- The most arguments that are kept; no command takes more (proofs/Counting).
+abbrev pub most : ℕ
+most = 12
 
 unfoldable pub nothing : Arguments
 nothing = record { count = 0; numeric = true; values = replicate most 0 }

@@ -4,7 +4,7 @@ use Prim.Native.Nat.{ℕ, _+_}
 use Prim.Native.String.{String}
 use mathlib.Core.Bool.{Bool, true, false, cond, _&&_, _||_}
 use mathlib.Core.List.{List, [], _∷_}
-use lib.Dec.{eqb, leb}
+use lib.Dec.{eqb}
 use Rattle.texts.specs.Text.{text, same}
 use Rattle.commands.specs.declared.names.Name.{Name}
 use Rattle.commands.specs.declared.names.Entry.{Entry}
@@ -46,10 +46,6 @@ entryIn (row ∷ rows) word = entryFor word (text (row .0)) (row .1) (entryIn ro
 unfoldable pub entryOf : List ℕ → Entry
 entryOf = entryIn table
 
--- The most arguments that are kept.
-abbrev pub most : ℕ
-most = 12
-
 -- Whether a command takes this number of arguments.
 unfoldable pub takes : Entry → ℕ → Bool
-takes entry count = leb count most && (eqb count (entry .plain) || (entry .set && eqb count (entry .plain + 6)))
+takes entry count = eqb count (entry .plain) || (entry .set && eqb count (entry .plain + 6))

@@ -1,5 +1,4 @@
 // The first word of a line is the command's name; each command takes a number of arguments.
-use crate::arguments::MOST;
 use texts::words::is_same;
 ghost use mathlib.Core.Path.{_≡_};
 ghost use Rattle.commands.specs.Names.{unknown, taking, entryFor, entryOf, takes as ofNames·takes};
@@ -80,14 +79,11 @@ impl Entry {
         }
     }
 
-    // Whether this number of arguments is taken. More than are kept are taken by no command.
+    // Whether this number of arguments is taken.
     pub(crate) fn takes(self, count: usize) -> bool
         ensures { λ r. ⌜ r ≡ ofNames·takes self count ⌝ }
     {
         let plain = self.plain as usize;
-        if MOST < count {
-            return false;
-        }
         if count == plain {
             return true;
         }

@@ -1,6 +1,6 @@
 -- A run to a position arrives: if nothing disturbs it, SAPBP v ends at its target, whatever the blind did before.
 -- Assumes nothing.
-use Prim.Native.Nat.{ℕ, _-_, _<_}
+use Prim.Native.Nat.{ℕ, _<_}
 use native.Mathlib.Omega.{arith}
 use mathlib.Core.Path.{_≡_, refl, sym, ap, _∙_, subst}
 use mathlib.Core.Bool.{true, not, _&&_}

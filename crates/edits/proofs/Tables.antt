@@ -5,12 +5,14 @@ use mathlib.Core.Path.{_≡_, refl}
 use mathlib.Core.List.{List, List·Permᴰ}
 use Rattle.answers.specs.Answers.{refusal}
 use Rattle.answers.specs.Rules.{carried}
+use Rattle.answers.proofs.Rules.{leaves-has}
 use Rattle.link.specs.declared.Link.{Link}
 use Rattle.link.specs.Link.{keyOf}
 use Rattle.links.specs.Edits.{moved, tagLinks}
 use Rattle.panel.specs.Panel.{Model, reseated}
 use Rattle.panel.specs.Sound.{Fine}
 use Rattle.panel.specs.Calls.{Cells}
+use Rattle.panel.proofs.Seats.{reseated-table}
 use Rattle.wiring.specs.Afresh.{Rebuilt}
 use Rattle.wiring.proofs.Moved.{counts-moved}
 use Rattle.wiring.proofs.Rebuilt.{rebuilt}
@@ -23,6 +25,15 @@ module _ (m : Model) (cells : Cells) (tag : ℕ) where
       → carried (removeRule tag) m cells .count ≡ moved keyOf (m .table .links) (carried (removeRule tag) m cells .leaves .table .links)
   unfolding removeRule
   remove-moved = counts-moved m cells (removeRule tag) refl
+
+  -- install and a write of parameters leave the table as it was, whatever is answered
+  pub install-table : (terminal : ℕ) (a : List ℕ) → carried (installRule tag terminal a) m cells .leaves .table ≡ m .table
+  unfolding installRule
+  install-table terminal a = leaves-has (installRule tag terminal a) m cells (λ (n : Model). n .table ≡ m .table) refl (λ e. reseated-table _ _ _)
+
+  pub write-table : (a : List ℕ) → carried (writeRule tag a) m cells .leaves .table ≡ m .table
+  unfolding writeRule
+  write-table a = leaves-has (writeRule tag a) m cells (λ (n : Model). n .table ≡ m .table) refl (λ e. reseated-table _ _ _)
 
   module _ (f : Fine m) (order : List Link) where
     -- from the surviving links

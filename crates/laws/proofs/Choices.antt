@@ -1,6 +1,6 @@
 -- Choices by a test, and tests that are joined.
 -- Assumes nothing.
-use mathlib.Core.Bool.{Bool, true, false, cond, not, _&&_, true≢false}
+use mathlib.Core.Bool.{Bool, true, false, cond, _&&_, true≢false}
 use mathlib.Core.Path.{_≡_, refl, sym, _∙_}
 
 -- what both sides of a choice have, the choice has

@@ -18,7 +18,7 @@ use Rattle.link.proofs.Ranges.{InRange}
 use Rattle.link.proofs.Keys.{key-tells}
 
 -- an element that does not pass a test changes nothing among those that pass
-kept-inserted : {A : Type 0} (key : A → ℕ) (p : A → Bool) (a : A) (xs : List A) → p a ≡ false → kept p (inserted key a xs) ≡ kept p xs
+pub kept-inserted : {A : Type 0} (key : A → ℕ) (p : A → Bool) (a : A) (xs : List A) → p a ≡ false → kept p (inserted key a xs) ≡ kept p xs
 unfolding inserted
 kept-inserted key p a [] e = kept-not p a [] e
 kept-inserted key p a (x ∷ xs) e = go (ltb (key x) (key a)) (p x) refl (kept-inserted key p a xs e)
@@ -29,7 +29,7 @@ kept-inserted key p a (x ∷ xs) e = go (ltb (key x) (key a)) (p x) refl (kept-i
     go false c f ih = kept-not p a (x ∷ xs) e
 
 -- a link that goes changes nothing among those that pass a test that it does not pass
-kept-deleted : (p : Link → Bool) (l : Link) (ls : List Link) → InRange l → Each InRange ls → p l ≡ false → kept p (deleted keyOf l ls) ≡ kept p ls
+pub kept-deleted : (p : Link → Bool) (l : Link) (ls : List Link) → InRange l → Each InRange ls → p l ≡ false → kept p (deleted keyOf l ls) ≡ kept p ls
 unfolding deleted kept
 kept-deleted p l [] r s e = refl
 kept-deleted p l (x ∷ xs) r s e = go (eqb (keyOf x) (keyOf l)) (p x) refl refl (kept-deleted p l xs r (rest s) e)

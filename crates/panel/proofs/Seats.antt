@@ -11,8 +11,6 @@ use lib.ListN.{length, getD, set}
 use lib.Seq.{getD-set-same, getD-set-other}
 use lib.Dec.{eqb, ltb}
 use borrow.Author.Tests.{eq-eqb, ne-eqb, eqb-true, eqb-false, lt-ltb}
-use Rattle.laws.specs.Fills.{filled}
-use Rattle.laws.proofs.Fills.{filled-at}
 use Rattle.blind.specs.declared.Blind.{Blind}
 use Rattle.tags.specs.declared.Tags.{Tags}
 use Rattle.tags.specs.Tags.{TagSet, places, tagsOf, put, taken}
@@ -49,10 +47,6 @@ module _ (rule : ℕ → Seat → Seat) (m : Model) where
   pub each-at : (tag : ℕ) → eachSeat rule m .seats tag ≡ Option·map (rule tag) (m .seats tag)
   unfolding eachSeat
   each-at tag = refl
-
-  pub each-table : eachSeat rule m .table ≡ m .table
-  unfolding eachSeat
-  each-table = refl
 
 -- ---- the seats of a panel
 

@@ -4,6 +4,7 @@ use blind_text::blinds::put_blind;
 use link::Link;
 use panel::Panel;
 use shows::numbers::put_spaced;
+use table::MOST;
 use table::Table;
 use tags::CELLS;
 use tags::Tags;
@@ -18,11 +19,6 @@ ghost use Rattle.panel.specs.Panel.{modelOf, seatsOf};
 ghost use Rattle.texts.specs.Sheet.{sheet, puts, each};
 ghost use Rattle.blind_text.specs.BlindText.{blindText};
 ghost use Rattle.panel_text.specs.PanelText.{seatText, linkText, linksText, panelText};
-
-// One place for each tag.
-
-// As many links as the table has places for.
-const LINKS: usize = 512;
 
 pub fn put_panel(out: &mut [u8], at: usize, panel: Panel) -> usize
     ensures { λ r. ⌜ sheet (now (out .exit)) r ≡ puts (panelText (modelOf panel)) (sheet (now (out .entry)) at) ⌝ }
@@ -67,7 +63,7 @@ fn put_seat(
 fn put_links(out: &mut [u8], at: usize, table: Table) -> usize
     ensures { λ r. ⌜ sheet (now (out .exit)) r ≡ puts (linksText (heldOf table .links)) (sheet (now (out .entry)) at) ⌝ }
 {
-    let count = least(table.count, LINKS);
+    let count = least(table.count, MOST);
     let mut next = at;
     let mut i = 0;
     while i < count {

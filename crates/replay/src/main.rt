@@ -4,10 +4,9 @@ use libc::STDIN_FILENO;
 use libc::STDOUT_FILENO;
 use panel::Panel;
 use replies::lines::answer_line;
-use texts::lines::LINE_FEED;
 use texts::lines::least;
+use texts::lines::line_end;
 use texts::lines::move_to_front;
-use texts::lines::place_of;
 ghost use Prim.Native.Nat.{_≤_};
 ghost use lib.ListN.{length};
 
@@ -98,11 +97,11 @@ fn left(start: usize, have: usize) -> usize {
 fn answer_lines(bench: Bench, input: &[u8], out: &mut [u8]) -> Bench {
     let mut next = bench;
     let mut start = 0;
-    let mut end = place_of(LINE_FEED, input, 0);
+    let mut end = line_end(input, 0);
     while end < input.len() {
         next = answer(next, &input[start..end], out);
         start = end + 1;
-        end = place_of(LINE_FEED, input, start);
+        end = line_end(input, start);
     }
     Bench {
         kept: start,

@@ -33,8 +33,6 @@ ghost use Rattle.panel.specs.Calls.{noCells, handed};
 ghost use Rattle.texts.specs.Sheet.{sheet};
 ghost use Rattle.replies.specs.Replies.{deskOf, edited, editRule, carriedOut};
 
-// One cell for each tag.
-
 pub(crate) fn carry_out(panel: Panel, command: Command, out: &mut [u8], at: usize) -> After
     ensures { λ r. ⌜ deskOf r (now (out .exit)) ≡ carriedOut command (modelOf panel) (sheet (now (out .entry)) at) ⌝ }
 {

@@ -5,8 +5,8 @@ pub mod numbered;
 
 use panel::Panel;
 use replies::lines::answer_line;
-use texts::lines::LINE_FEED;
 use texts::lines::least;
+use texts::lines::line_end;
 use texts::lines::place_of;
 use texts::words::is_same;
 ghost use Prim.Native.Nat.{_-_};
@@ -45,7 +45,7 @@ fn follow(trial: Trial, script: &[u8], sheet: &mut [u8]) -> Trial
     let mut next = trial;
     let mut start = 0;
     while start < script.len() {
-        let end = place_of(LINE_FEED, script, start);
+        let end = line_end(script, start);
         next = try_line(next, &script[start..end], sheet);
         start = end + 1;
     }

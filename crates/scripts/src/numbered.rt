@@ -4,8 +4,8 @@ use crate::holds;
 use crate::limits::LIMITS;
 use crate::limits::full_table;
 use libc::STDOUT_FILENO;
-use texts::lines::LINE_FEED;
 use texts::lines::least;
+use texts::lines::line_end;
 use texts::lines::place_of;
 use texts::sheets::put_text;
 
@@ -168,7 +168,7 @@ fn run(cases: &[u8], install: &[u8], row: &mut [u8], sheet: &mut [u8]) {
 
 // A case: what it starts from and its own script are written into the row, and then carried out.
 fn case(text: &[u8], install: &[u8], row: &mut [u8], sheet: &mut [u8]) {
-    let named = place_of(LINE_FEED, text, 0);
+    let named = line_end(text, 0);
     let fresh = put_fresh(row, install);
     let end = put_text(row, fresh, &text[named..]);
     judge(&text[..named], row, end, sheet);

@@ -1,10 +1,11 @@
 -- The rule that both splices share is the rule of each: nothing is taken out of no terminals, and on a sound panel no terminal
 -- passes the strip by rising none. Assumes nothing.
-use Prim.Native.Nat.{ℕ, _+_, _-_}
+use Prim.Native.Nat.{ℕ, _+_, _-_, _≤_, _<_}
 use native.Mathlib.Omega.{arith}
 use mathlib.Core.Path.{_≡_, refl, sym, ap, _∙_, fun-ext}
 use mathlib.Core.Bool.{Bool, true, false}
 use mathlib.Core.List.{[], _∷_}
+use borrow.Author.Tests.{le-leb, lt-leb}
 use Rattle.laws.proofs.Choices.{is-false}
 use Rattle.answers.specs.Answers.{first, refusal}
 use Rattle.panel.specs.Panel.{Model}
@@ -30,6 +31,26 @@ raised-moves t n = fun-ext (λ x. rw (more-none t, less-none (x + n)))
 lowered-moves : (t n : ℕ) → moved t 0 n ≡ lowered t n
 unfolding moved lowered
 lowered-moves t n = fun-ext (λ x. rw (more-none x))
+
+-- ---- which terminals move
+
+pub raised-low : (t n x : ℕ) → x < t → raised t n x ≡ x
+unfolding raised
+raised-low t n x h = rw (lt-leb t x h)
+
+pub raised-high : (t n x : ℕ) → t ≤ x → raised t n x ≡ x + n
+unfolding raised
+raised-high t n x h = rw (le-leb t x h)
+
+pub lowered-low : (t n x : ℕ) → x < t + n → lowered t n x ≡ x
+unfolding lowered
+lowered-low t n x h = rw (lt-leb (t + n) x h)
+
+pub lowered-high : (t n x : ℕ) → t + n ≤ x → lowered t n x ≡ x - n
+unfolding lowered
+lowered-high t n x h = rw (le-leb (t + n) x h)
+
+-- ---- the rule of each
 
 module _ (t n : ℕ) (m : Model) where
   pub in-leaves : spliceRule t n n 0 .leaves m ≡ spliceInRule t n .leaves m

@@ -4,7 +4,7 @@ ghost use mathlib.Core.Path.{_≡_};
 ghost use lib.ListN.{length, drop};
 ghost use Rattle.texts.specs.Lines.{until, movable, moved};
 
-pub const LINE_FEED: u8 = 10;
+const LINE_FEED: u8 = 10;
 
 // The place of the first such byte from here on, or the end of the row.
 pub fn place_of(mark: u8, bytes: &[u8], from: usize) -> usize
@@ -18,6 +18,13 @@ pub fn place_of(mark: u8, bytes: &[u8], from: usize) -> usize
         at += 1;
     }
     at
+}
+
+// The end of the line that begins here: the place of its line feed, or the end of the row.
+pub fn line_end(bytes: &[u8], from: usize) -> usize
+    ensures { λ r. ⌜ r ≡ from + until 10 (drop from (now (bytes .entry))) ⌝ }
+{
+    place_of(LINE_FEED, bytes, from)
 }
 
 // Moves bytes to the front and hands back how many: none where there are not so many from there on.

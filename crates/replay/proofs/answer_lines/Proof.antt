@@ -15,7 +15,7 @@ abbrev μ-loop : tie.MeasureT-loop
 μ-loop input out₀ next₀ start₀ end₀ out next start end = length input - end
 
 loop-again : tie.Need-loop-again Inv-loop μ-loop
-loop-again c = (omega (arith, c .place-of2 .ensures), c .before .before .before .answer .kept .1 .1 .0 ∙ c .before .before .before .before .before .before .before .loop .inv .1)
+loop-again c = (omega (arith, c .line-end2 .ensures), c .before .before .before .answer .kept .1 .1 .0 ∙ c .before .before .before .before .before .before .before .loop .inv .1)
 
 pub answer-lines-spec : {M : Type 1} → statement M
 answer-lines-spec =
@@ -24,12 +24,12 @@ answer-lines-spec =
     Inv-loop
     μ-loop
     (λ c κs. search needs)
-    (λ c. (omega (arith, c .place-of .ensures), refl))
+    (λ c. (omega (arith, c .line-end .ensures), refl))
     (λ c. omega (arith, c .before .loop .inv .0))
     (λ c. omega (arith, c .before .loop .inv .0))
     (λ c. omega (arith, c .before .loop .inv .0))
     (λ c κs. search needs) (λ c. search needs) (λ c κs. search needs)
-    (λ c. omega (arith, c .place-of2 .ensures))
+    (λ c. omega (arith, c .line-end2 .ensures))
     loop-again
     (λ c. c .before .before .loop .inv .1)
     (λ c. search needs))

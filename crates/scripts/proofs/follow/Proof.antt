@@ -19,8 +19,8 @@ abbrev μ-loop : tie.MeasureT-loop
 μ-loop script sheet₀ next₀ start₀ sheet next start = length script - start
 
 -- a line ends within the script
-within : (c : tie.After-place-of Inv-loop μ-loop) → c .place-of .result ≤ length (c .before .before .before .before .before .args .script .now)
-within c = place-within 10 (c .before .before .before .before .before .args .script .now) (c .before .before .loop .start) _ (omega arith) (c .place-of .ensures)
+within : (c : tie.After-line-end Inv-loop μ-loop) → c .line-end .result ≤ length (c .before .before .before .before .before .args .script .now)
+within c = place-within 10 (c .before .before .before .before .before .args .script .now) (c .before .before .loop .start) _ (omega arith) (c .line-end .ensures)
 
 loop-again : tie.Need-loop-again Inv-loop μ-loop
 loop-again c =
@@ -29,7 +29,7 @@ loop-again c =
     let at = ended .before .before in
     let script = at .before .before .before .args .script .now in (
       line .try-line .kept .1 .1 .0 ∙ at .loop .inv .0,
-      followed-more script (at .loop .start) (ended .place-of .result) (courseOf (at .loop .next) (at .loop .sheet)) (omega arith) (ended .place-of .ensures) (line .try-line .ensures) (at .loop .inv .1),
+      followed-more script (at .loop .start) (ended .line-end .result) (courseOf (at .loop .next) (at .loop .sheet)) (omega arith) (ended .line-end .ensures) (line .try-line .ensures) (at .loop .inv .1),
     )
 
 returns : tie.Need-returns Inv-loop μ-loop
@@ -43,12 +43,12 @@ follow-spec =
     μ-loop
     (λ c. (refl, refl))
     (λ c κs. search needs)
-    (λ c. omega (arith, c .place-of .ensures))
-    (λ c. omega (arith, c .place-of .ensures, within c))
+    (λ c. omega (arith, c .line-end .ensures))
+    (λ c. omega (arith, c .line-end .ensures, within c))
     (λ c. omega (arith, within c))
     (λ c κs. search needs)
     (λ c. omega (arith, within (c .before .before .before .before .before)))
-    (λ c. omega (arith, c .before .before .before .before .before .place-of .ensures))
+    (λ c. omega (arith, c .before .before .before .before .before .line-end .ensures))
     loop-again
     (λ c. c .before .loop .inv .0)
     returns)

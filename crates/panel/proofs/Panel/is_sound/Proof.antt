@@ -1,5 +1,5 @@
 -- The tests of the definition, the blinds first; the names decide what is left.
-use mathlib.Core.Path.{_≡_, sym, ap, _∙_}
+use mathlib.Core.Path.{sym, ap, _∙_}
 use borrow.Author.Needs.{needs}
 use borrow.Author.Tests.{not-true, not-false}
 use Rattle.tags.specs.Tags.{TagSet}

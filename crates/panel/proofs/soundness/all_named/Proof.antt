@@ -1,7 +1,7 @@
 -- The links that failed so far and those left to fail are all that fail; none does exactly if each names a present blind.
 use Prim.Native.Nat.{_+_, _-_, _≤_, _<_, min}
 use native.Mathlib.Omega.{arith}
-use mathlib.Core.Path.{_≡_, refl, sym, ap, _∙_}
+use mathlib.Core.Path.{_≡_, sym, ap, _∙_}
 use mathlib.Core.Bool.{Bool, cond}
 use lib.ListN.{length, getD, drop, length-take}
 use lib.Dec.{eqb}

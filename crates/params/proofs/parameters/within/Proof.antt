@@ -1,6 +1,5 @@
 -- `within`: the test that led to a return decides the first part, the last comparison the second.
 -- Assumes nothing.
-use borrow.Author.Needs.{needs}
 use borrow.Author.Tests.{le-leb, lt-leb}
 use Rattle.params.specs.Parameters.{within}
 use Rattle.params.proofs.parameters.within.Statement.{statement}

@@ -10,13 +10,13 @@ use Rattle.scripts.proofs.LineByLine.{place-within}
 use Rattle.scripts.proofs.numbered.case.Statement.{statement}
 use Rattle.scripts.proofs.numbered.case.Tie as tie
 
-within : (c : tie.After-place-of) → c .place-of .result ≤ length (c .before .before .before .before .before .args .text .now)
-within c = place-within 10 (c .before .before .before .before .before .args .text .now) 0 _ (omega arith) (c .place-of .ensures)
+within : (c : tie.After-line-end) → c .line-end .result ≤ length (c .before .before .before .before .before .args .text .now)
+within c = place-within 10 (c .before .before .before .before .before .args .text .now) 0 _ (omega arith) (c .line-end .ensures)
 
 name : tie.Need-slice-aggregate-judge
 name c =
     let named = c .before .before .before .before .before .before .before .before .before .before in
-    sym (length-take-le (named .place-of .result) (named .before .before .before .before .before .args .text .now) (within named))
+    sym (length-take-le (named .line-end .result) (named .before .before .before .before .before .args .text .now) (within named))
 
 pub case-spec : {M : Type 1} → statement M
 case-spec =

@@ -9,7 +9,7 @@ use borrow.Author.Needs.{needs}
 use borrow.Author.Tests.{le-leb, lt-leb}
 use Rattle.laws.specs.Fills.{tabulate, filled}
 use Rattle.laws.proofs.Fills.{filled-none, filled-more, filled-all}
-use Rattle.params.specs.Numbers.{setSize, askedOf}
+use Rattle.params.specs.Numbers.{setSize}
 use Rattle.commands.specs.declared.arguments.Arguments.{Arguments}
 use Rattle.commands.specs.Arguments.{valueAt}
 use Rattle.commands.specs.Lines.{setAfter}

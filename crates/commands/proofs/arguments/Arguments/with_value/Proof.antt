@@ -6,7 +6,7 @@ use mathlib.Core.Logic.{⊎-elim}
 use lib.ListN.{length}
 use lib.Seq.{set-out}
 use borrow.Author.Needs.{needs}
-use Rattle.commands.specs.Names.{most}
+use Rattle.commands.specs.Arguments.{most}
 use Rattle.commands.specs.Arguments.{with}
 use Rattle.commands.proofs.arguments.Arguments.with_value.Statement.{statement}
 use Rattle.commands.proofs.arguments.Arguments.with_value.Tie as tie

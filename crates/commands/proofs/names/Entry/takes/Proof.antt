@@ -1,22 +1,18 @@
--- Too many, the plain number, or six more where a set may follow.
+-- The plain number, or six more where a set may follow.
 -- Assumes nothing.
-use mathlib.Core.Path.{sym}
 use borrow.Author.Needs.{needs}
-use Rattle.commands.proofs.Counting.{none-past, plain-taken, by-set}
+use Rattle.commands.proofs.Counting.{plain-taken, by-set}
 use Rattle.commands.proofs.names.Entry.takes.Statement.{statement}
 use Rattle.commands.proofs.names.Entry.takes.Tie as tie
 
 returns : tie.Need-returns
-returns c = let a = c .before .before .args in sym (none-past (a .self) (a .count) (c .if1 .taken))
+returns c = let a = c .before .before .args in plain-taken (a .self) (a .count) (c .if1 .taken)
 
 returns-2 : tie.Need-returns-2
-returns-2 c = let a = c .before .before .before .args in plain-taken (a .self) (a .count) (c .before .if1 .left) (c .if2 .taken)
+returns-2 c = let a = c .before .before .before .args in by-set (a .self) (a .count) (c .before .if1 .left) (c .if2 .taken)
 
 returns-3 : tie.Need-returns-3
-returns-3 c = let a = c .before .before .before .before .args in by-set (a .self) (a .count) (c .before .before .if1 .left) (c .before .if2 .left) (c .if3 .taken)
-
-returns-4 : tie.Need-returns-4
-returns-4 c = let a = c .before .before .before .before .args in by-set (a .self) (a .count) (c .before .before .if1 .left) (c .before .if2 .left) (c .if3 .left)
+returns-3 c = let a = c .before .before .before .args in by-set (a .self) (a .count) (c .before .if1 .left) (c .if2 .left)
 
 pub takes-spec : {M : Type 1} → statement M
-takes-spec = tie.close (tie.spec (λ c. search needs) returns returns-2 (λ c. search needs) returns-3 returns-4)
+takes-spec = tie.close (tie.spec (λ c. search needs) returns (λ c. search needs) returns-2 returns-3)
