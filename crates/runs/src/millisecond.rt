@@ -5,18 +5,9 @@ use heights::Place;
 use params::Params;
 ghost use mathlib.Core.Path.{_≡_};
 ghost use Prim.Native.Nat.{_-_, min};
-ghost use Rattle.runs.specs.Millisecond.{shorter, arrivedAt};
+ghost use Rattle.runs.specs.Millisecond.{arrivedAt};
 
 impl Run {
-    pub fn shortened(self, gone: u32) -> Run
-        ensures { λ r. ⌜ r ≡ shorter gone self ⌝ }
-    {
-        Run {
-            length: left(self.length, gone),
-            ..self
-        }
-    }
-
     // How many of dt milliseconds come before the run's last one.
     pub fn before_last(self, dt: u64) -> u32
         ensures { λ r. ⌜ r ≡ min dt (self .length - 1) ⌝ }

@@ -1,0 +1,15 @@
+-- `Blind::wait`: whether this is the last millisecond of the pause picks the side of the choice in `waited`.
+-- Assumes nothing.
+use borrow.Author.Needs.{needs}
+use Rattle.blind.specs.Millisecond.{waited}
+use Rattle.blind.proofs.Blind.wait.Statement.{statement}
+use Rattle.blind.proofs.Blind.wait.Tie as tie
+
+pub wait-spec : {M : Type 1} → statement M
+unfolding waited
+wait-spec =
+    tie.close
+    (tie.spec
+    (λ c κs. search needs) (λ c κs. search needs)
+    (λ c. simp (c .start .ensures, c .before .if1 .taken))
+    (λ c. simp (c .before .before .before .left .ensures, c .before .before .before .before .if1 .left)))
