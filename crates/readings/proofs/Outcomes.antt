@@ -9,7 +9,7 @@ use Rattle.panel.specs.Sound.{Sound}
 use Rattle.panel.specs.Calls.{Cells}
 use Rattle.readings.specs.declared.inventory.Counted.{Counted}
 use Rattle.readings.specs.Strip.{stripRule}
-use Rattle.readings.specs.Inventory.{inventoryRule, countedOf}
+use Rattle.readings.specs.Inventory.{countedOf}
 
 module _ (m : Model) (cells : Cells) where
   -- whatever the answer
@@ -20,14 +20,6 @@ module _ (m : Model) (cells : Cells) where
   pub strip-keeps : Sound m → refusal (stripRule .checks m cells) ≡ 0 → Sound (stripRule .leaves m)
   unfolding stripRule
   strip-keeps s e = s
-
-  pub inventory-same : carried inventoryRule m cells .leaves ≡ m
-  unfolding inventoryRule
-  inventory-same = leaves-has inventoryRule m cells (λ (n : Model). n ≡ m) refl (λ e. refl)
-
-  pub inventory-keeps : Sound m → refusal (inventoryRule .checks m cells) ≡ 0 → Sound (inventoryRule .leaves m)
-  unfolding inventoryRule
-  inventory-keeps s e = s
 
 -- the whole result
 pub one-counted : (m : Model) {o : Result Model Cells} (r₁ r₂ : Counted) → countedOf r₁ m ≡ o → countedOf r₂ m ≡ o → r₁ ≡ r₂

@@ -1,4 +1,5 @@
--- Document 01, "Numbers the panel answers": the numbers that a telegram can answer, and for each of them its case. A case is met only if none above it is; proofs/Exact shows that each number is given exactly in its case.
+-- Document 01, "Numbers the panel answers": the numbers that a telegram can answer, and for each of them its case.
+-- A case is met only if none above it is; proofs/Exact shows that each number is given exactly in its case.
 -- Assumes nothing.
 use Prim.Native.Nat.{ℕ, _<_, _≤_}
 use mathlib.Core.Path.{_≡_}

@@ -1,6 +1,5 @@
 -- Where a byte fits, it is stored; else nothing is.
 -- Assumes nothing.
-use mathlib.Core.Path.{ap, sym}
 use borrow.Author.Needs.{needs}
 use borrow.Author.Tests.{lt-ltb, le-ltb}
 use Rattle.texts.specs.Sheet.{put}
