@@ -4,19 +4,16 @@ use Prim.Native.Nat.{ℕ}
 use mathlib.Core.Bool.{Bool, cond}
 use mathlib.Core.List.{List, [], _∷_}
 use lib.ListN.{length, getD}
-use Rattle.runs.specs.declared.Goal.{Goal}
 use Rattle.runs.specs.declared.Last.{Last}
-use Rattle.runs.specs.declared.Run.{Run}
 use Rattle.blind.specs.declared.Blind.{Blind}
-use Rattle.heights.specs.declared.Direction.{Direction}
 use Rattle.blind.specs.declared.Flags.{Flags}
 use Rattle.blind.specs.declared.Forced.{Forced}
-use Rattle.blind.specs.declared.Motion.{Motion}
 use Rattle.params.specs.Numbers.{numbersOf}
 use Rattle.texts.specs.Text.{text}
 use Rattle.texts.specs.Sheet.{joined, each}
 use Rattle.decimals.specs.Decimals.{decimal}
 use Rattle.shows.specs.Numbers.{spaced}
+use Rattle.motion_text.specs.MotionText.{motionText}
 
 -- The numbers of a set in their order, each with a space before it.
 unfoldable pub setText : List ℕ → List ℕ
@@ -39,25 +36,6 @@ unfoldable pub lastText : Last → List ℕ
 lastText Last.Either = text " last=-"
 lastText Last.Up = text " last=up"
 lastText Last.Down = text " last=down"
-
-unfoldable pub directionText : Direction → List ℕ
-directionText Direction.Up = text "up"
-directionText Direction.Down = text "down"
-
-unfoldable pub goalText : Goal → List ℕ
-goalText Goal.Full = text ":full:"
-goalText Goal.Step = text ":step:"
-goalText Goal.Position = text ":pos:"
-
--- "Direction, full, step or pos, length."
-unfoldable pub runText : Run → List ℕ
-runText run = joined (directionText (run .direction) ∷ goalText (run .goal) ∷ decimal (run .length) ∷ [])
-
--- "Rest is 0 while running", "run and wait are - or" a run.
-unfoldable pub motionText : Motion → List ℕ
-motionText (Motion.Off rest) = joined (text " rest=" ∷ decimal rest ∷ text " run=- wait=-" ∷ [])
-motionText (Motion.Waits rest run) = joined (text " rest=" ∷ decimal rest ∷ text " run=- wait=" ∷ runText run ∷ [])
-motionText (Motion.Runs run) = joined (text " rest=0 run=" ∷ runText run ∷ text " wait=-" ∷ [])
 
 -- "Valid is 0 or 1."
 unfoldable pub positionText : ℕ → Bool → List ℕ

@@ -9,7 +9,7 @@ use mathlib.Core.List.{List, [], _∷_, _++_, map}
 use lib.ListN.{length, getD, drop, set, replicate, length-map, drop-of-length-le}
 use lib.Seq.{sets, sets-eq, getD-drop}
 use Rattle.laws.specs.Every.{every}
-use Rattle.texts.specs.Words.{words, blanks, letters}
+use Rattle.words.specs.Words.{words, blanks, letters}
 use Rattle.laws.proofs.Choices.{both-left, both-right}
 use Rattle.decimals.specs.declared.Number.{Number}
 use Rattle.decimals.specs.Decimals.{isNumber, valueOf, numberOf}

@@ -9,8 +9,8 @@ use lib.ListN.{length, getD, drop}
 use lib.Dec.{eqb}
 use borrow.Author.Tests.{eq-eqb, ne-eqb}
 use Rattle.laws.specs.Every.{every}
-use Rattle.texts.specs.Words.{words, blanks, letters}
-use Rattle.texts.proofs.NextWord.{no-words}
+use Rattle.words.specs.Words.{words, blanks, letters}
+use Rattle.words.proofs.NextWord.{no-words}
 use Rattle.decimals.specs.Decimals.{isNumber, valueOf}
 use Rattle.commands.specs.declared.Meaning.{Meaning}
 use Rattle.commands.specs.declared.names.Entry.{Entry}

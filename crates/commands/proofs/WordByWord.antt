@@ -8,8 +8,8 @@ use mathlib.Core.List.{List, [], _∷_}
 use lib.ListN.{length, getD, take, drop, length-drop}
 use lib.Seq.{drop-cons, drop-drop}
 use lib.Dec.{eqb}
-use Rattle.texts.specs.Words.{isBlank, words, front, blanks, letters}
-use Rattle.texts.proofs.NextWord.{front-within, words-past-blanks, at-word, next-word}
+use Rattle.words.specs.Words.{isBlank, words, front, blanks, letters}
+use Rattle.words.proofs.NextWord.{front-within, words-past-blanks, at-word, next-word}
 use Rattle.commands.specs.Lines.{isComment}
 
 -- where no blank stands, a letter does

@@ -10,7 +10,7 @@ use Rattle.params.specs.Parameters.{defaults}
 use Rattle.params.specs.declared.Asked.{Asked}
 use Rattle.laws.specs.Fills.{tabulate}
 use Rattle.params.specs.Numbers.{setSize, numbersOf, askedOf}
-use Rattle.texts.specs.Words.{words}
+use Rattle.words.specs.Words.{words}
 use Rattle.decimals.specs.Decimals.{isNumber, valueOf}
 use Rattle.commands.specs.declared.Command.{Command}
 use Rattle.commands.specs.declared.Edit.{Edit}

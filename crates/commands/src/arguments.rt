@@ -3,12 +3,12 @@ use decimals::Number;
 use decimals::read_number;
 use params::Asked;
 use params::SET;
-use texts::words::word_end;
-use texts::words::word_start;
+use words::word_end;
+use words::word_start;
 ghost use Prim.Native.Nat.{_≤_};
 ghost use mathlib.Core.Path.{_≡_};
 ghost use lib.ListN.{drop};
-ghost use Rattle.texts.specs.Words.{words};
+ghost use Rattle.words.specs.Words.{words};
 ghost use Rattle.commands.specs.Arguments.{nothing, oneMore, with, heard, valueAt};
 ghost use Rattle.commands.specs.Lines.{setAfter};
 

@@ -6,14 +6,14 @@ use crate::Meaning;
 use crate::arguments::Arguments;
 use crate::names::Entry;
 use crate::names::Name;
-use texts::words::word_end;
-use texts::words::word_start;
+use words::word_end;
+use words::word_start;
 ghost use Prim.Native.Nat.{_≤_};
 ghost use mathlib.Core.Path.{_≡_};
 ghost use lib.ListN.{take, length};
 ghost use Rattle.commands.specs.Lines.{withoutReturn, meaningOf, judged, called, lineMeans};
 ghost use Rattle.commands.specs.Arguments.{valueAt};
-ghost use Rattle.texts.specs.Words.{words};
+ghost use Rattle.words.specs.Words.{words};
 
 // The longest line that is read; a carriage return counts, the line feed does not.
 pub const LONGEST: usize = 256;

@@ -1,5 +1,5 @@
 // The first word of a line is the command's name; each command takes a number of arguments.
-use texts::words::is_same;
+use words::is_same;
 ghost use mathlib.Core.Path.{_≡_};
 ghost use Rattle.commands.specs.Names.{unknown, taking, entryFor, entryOf, takes as ofNames·takes};
 

@@ -1,6 +1,6 @@
 // Numbers of up to 64 bits as decimal text: read from a word, and put on a sheet. A word that is no such number is refused
 // and never cut short.
-use texts::sheets::put;
+use texts::put;
 ghost use Prim.Native.Nat.{_%_};
 ghost use mathlib.Core.Path.{_≡_};
 ghost use mathlib.Core.List.{[], _∷_};

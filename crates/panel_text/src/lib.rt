@@ -1,15 +1,15 @@
 // The whole panel in one line: each blind by its tag with all that it holds, then each link in table order.
 use blind::Blind;
-use blind_text::blinds::put_blind;
+use blind_text::put_blind;
 use link::Link;
 use panel::Panel;
+use rows::least;
 use shows::numbers::put_spaced;
 use table::MOST;
 use table::Table;
 use tags::CELLS;
 use tags::Tags;
-use texts::lines::least;
-use texts::sheets::put_text;
+use texts::put_text;
 ghost use mathlib.Core.Path.{_≡_};
 ghost use mathlib.Core.Bool.{cond};
 ghost use mathlib.Core.List.{[]};

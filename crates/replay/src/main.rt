@@ -4,9 +4,9 @@ use libc::STDIN_FILENO;
 use libc::STDOUT_FILENO;
 use panel::Panel;
 use replies::lines::answer_line;
-use texts::lines::least;
-use texts::lines::line_end;
-use texts::lines::move_to_front;
+use rows::least;
+use rows::line_end;
+use rows::move_to_front;
 ghost use Prim.Native.Nat.{_≤_};
 ghost use lib.ListN.{length};
 

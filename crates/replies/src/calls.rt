@@ -22,7 +22,7 @@ use splices::splice_in;
 use splices::splice_out;
 use tags::CELLS;
 use telegrams::telegram;
-use texts::sheets::put_text;
+use texts::put_text;
 use time_steps::time_step;
 use wiring::add_link;
 use wiring::remove_link;

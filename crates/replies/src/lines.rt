@@ -7,7 +7,7 @@ use commands::Meaning;
 use commands::lines::read_line;
 use decimals::put_number;
 use panel::Panel;
-use texts::sheets::put_text;
+use texts::put_text;
 ghost use mathlib.Core.Path.{_≡_};
 ghost use Rattle.panel.specs.Panel.{modelOf};
 ghost use Rattle.texts.specs.Sheet.{sheet, puts};

@@ -12,9 +12,9 @@ use borrow.Author.Tests.{leb-true, leb-false}
 use Rattle.panel.specs.Panel.{Model}
 use Rattle.texts.specs.Text.{same}
 use Rattle.texts.specs.Sheet.{sheet}
-use Rattle.texts.specs.Lines.{until, lines}
-use Rattle.texts.proofs.NextWord.{front-within}
-use Rattle.texts.proofs.NextLine.{line-turn}
+use Rattle.rows.specs.Lines.{until, lines}
+use Rattle.words.proofs.NextWord.{front-within}
+use Rattle.rows.proofs.NextLine.{line-turn}
 use Rattle.replies.specs.Replies.{Desk, lineDone}
 use Rattle.scripts.specs.Scripts.{Course, course, answerOn, heldTo, tried, followed}
 

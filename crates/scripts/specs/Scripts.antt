@@ -7,7 +7,7 @@ use lib.ListN.{take, drop}
 use Rattle.panel.specs.Panel.{Model, modelOf, bare}
 use Rattle.texts.specs.Text.{same}
 use Rattle.texts.specs.Sheet.{Sheet, sheet}
-use Rattle.texts.specs.Lines.{until, lines}
+use Rattle.rows.specs.Lines.{until, lines}
 use Rattle.replies.specs.Replies.{Desk, lineDone}
 use Rattle.scripts.specs.declared.Trial.{Trial}
 

@@ -5,16 +5,16 @@ pub mod numbered;
 
 use panel::Panel;
 use replies::lines::answer_line;
-use texts::lines::least;
-use texts::lines::line_end;
-use texts::lines::place_of;
-use texts::words::is_same;
+use rows::least;
+use rows::line_end;
+use rows::place_of;
+use words::is_same;
 ghost use Prim.Native.Nat.{_-_};
 ghost use mathlib.Core.Path.{_≡_};
 ghost use mathlib.Core.Bool.{_&&_};
 ghost use lib.ListN.{take};
 ghost use Rattle.texts.specs.Text.{same as ofText·same};
-ghost use Rattle.texts.specs.Lines.{lines};
+ghost use Rattle.rows.specs.Lines.{lines};
 ghost use Rattle.scripts.specs.Scripts.{courseOf, tried, followed, scriptHolds};
 
 const EQUALS: u8 = b'=';

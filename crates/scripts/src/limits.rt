@@ -3,7 +3,7 @@
 use crate::numbered::judge;
 use crate::numbered::put_fresh;
 use decimals::put_number;
-use texts::sheets::put_text;
+use texts::put_text;
 ghost use mathlib.Core.Path.{_≡_};
 ghost use Rattle.texts.specs.Sheet.{sheet, puts};
 ghost use Rattle.scripts.specs.Limits.{linkLine, linkLines};

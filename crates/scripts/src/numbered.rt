@@ -4,10 +4,10 @@ use crate::holds;
 use crate::limits::LIMITS;
 use crate::limits::full_table;
 use libc::STDOUT_FILENO;
-use texts::lines::least;
-use texts::lines::line_end;
-use texts::lines::place_of;
-use texts::sheets::put_text;
+use rows::least;
+use rows::line_end;
+use rows::place_of;
+use texts::put_text;
 
 // A case begins with this mark and its name; its script goes on to the next mark.
 const MARK: u8 = b'@';

@@ -3,7 +3,7 @@ use crate::numbers::put_counted;
 use crate::numbers::put_spaced;
 use answers::DONE;
 use decimals::put_number;
-use texts::sheets::put_text;
+use texts::put_text;
 ghost use mathlib.Core.Path.{_≡_};
 ghost use Rattle.texts.specs.Sheet.{sheet, puts};
 ghost use Rattle.shows.specs.Cells.{cellShown, cellText, cellsText, countedWith};

@@ -1,6 +1,6 @@
 // The numbers of an answer line: the number of the table, and the count with it.
 use decimals::put_number;
-use texts::sheets::put_text;
+use texts::put_text;
 ghost use mathlib.Core.Path.{_≡_};
 ghost use Rattle.texts.specs.Sheet.{sheet, puts};
 ghost use Rattle.shows.specs.Numbers.{spaced, counted};

@@ -1,4 +1,1 @@
 pub mod Sheet
-pub mod NextWord
-pub mod NextLine
-pub mod MovedRow

@@ -1,4 +1,2 @@
 pub mod Text
 pub mod Sheet
-pub mod Words
-pub mod Lines

@@ -12,7 +12,7 @@ use Rattle.decimals.proofs.put_number.Reads as put-number
 use Rattle.decimals.proofs.put_number.Kinds as put-number-kinds
 use Rattle.decimals.proofs.+put_number.Lts-put_number as put-number-lts
 use Rattle.decimals.proofs.last_sign.Reads as last-sign-reads
-use Rattle.texts.proofs.sheets.put.Reads as put-reads
+use Rattle.texts.proofs.put.Reads as put-reads
 use Rattle.decimals.proofs.+put_number.{statement}
 use Rattle.decimals.proofs.+put_number.Tie.{close}
 

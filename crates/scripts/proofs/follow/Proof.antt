@@ -5,7 +5,7 @@ use native.Mathlib.Omega.{arith}
 use mathlib.Core.Path.{_≡_, refl, _∙_}
 use lib.ListN.{length, drop}
 use borrow.Author.Needs.{needs}
-use Rattle.texts.specs.Lines.{lines}
+use Rattle.rows.specs.Lines.{lines}
 use Rattle.scripts.specs.Scripts.{courseOf, followed}
 use Rattle.scripts.proofs.LineByLine.{place-within, followed-more, followed-end}
 use Rattle.scripts.proofs.follow.Statement.{statement}

@@ -4,7 +4,7 @@ use mathlib.Core.Path.{ap, _∙_}
 use mathlib.Core.Bool.{true}
 use borrow.Author.Needs.{needs}
 use Rattle.panel.specs.Panel.{Model}
-use Rattle.texts.specs.Lines.{lines}
+use Rattle.rows.specs.Lines.{lines}
 use Rattle.scripts.specs.Scripts.{Course, course, followed, scriptHolds}
 use Rattle.scripts.proofs.holds.Statement.{statement}
 use Rattle.scripts.proofs.holds.Tie as tie

@@ -5,7 +5,7 @@ use native.Mathlib.Omega.{arith}
 use mathlib.Core.Path.{_≡_}
 use lib.ListN.{length, drop}
 use borrow.Author.Needs.{needs}
-use Rattle.texts.specs.Words.{words, blanks}
+use Rattle.words.specs.Words.{words, blanks}
 use Rattle.commands.specs.Arguments.{nothing, heard}
 use Rattle.commands.proofs.WordByWord.{past-blanks, word-within, word-some}
 use Rattle.commands.proofs.Collected.{heard-start, heard-more, heard-end}
