@@ -9,7 +9,7 @@ use Rattle.blind.specs.declared.Blind.{Blind}
 use Rattle.outputs.specs.Reports.{motorOf}
 use Rattle.panel.specs.Panel.{Model}
 use Rattle.panel.specs.Sound.{Sound}
-use Rattle.panel.specs.Strip.{terminals}
+use Rattle.terminals.specs.Strip.{terminals}
 use Rattle.panel.specs.Calls.{row}
 use Rattle.panel.proofs.Decides.{sound-tested}
 use Rattle.readings.proofs.Checks.{strip-passed}

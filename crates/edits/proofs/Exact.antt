@@ -7,7 +7,7 @@ use Rattle.answers.proofs.Exact.{Told, all-told, told}
 use Rattle.params.proofs.Ranges.{ranges-decide}
 use Rattle.tags.specs.Tags.{places}
 use Rattle.panel.specs.Panel.{Model}
-use Rattle.panel.specs.Strip.{terminals}
+use Rattle.terminals.specs.Strip.{terminals}
 use Rattle.panel.specs.Sound.{Tagged}
 use Rattle.panel.specs.Calls.{Cells}
 use Rattle.panel.proofs.Exact.{checks-told}

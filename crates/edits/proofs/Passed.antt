@@ -10,7 +10,7 @@ use Rattle.answers.specs.Answers.{refusal}
 use Rattle.answers.proofs.Refusals.{all-passed}
 use Rattle.tags.specs.Tags.{places}
 use Rattle.panel.specs.Panel.{Model, presentIn}
-use Rattle.panel.specs.Strip.{terminals}
+use Rattle.terminals.specs.Strip.{terminals}
 use Rattle.panel.specs.Sound.{isSound}
 use Rattle.panel.specs.Calls.{Cells}
 use Rattle.panel.proofs.Checks.{Passed, passed}

@@ -7,7 +7,7 @@ use mathlib.Core.Logic.{_⊎_}
 use Rattle.answers.specs.Cases.{Case, case}
 use Rattle.tags.specs.Tags.{places}
 use Rattle.panel.specs.Panel.{Model}
-use Rattle.panel.specs.Strip.{terminals}
+use Rattle.terminals.specs.Strip.{terminals}
 use Rattle.panel.specs.Sound.{Sound}
 use Rattle.panel.specs.Calls.{Cells}
 use Rattle.seats.specs.Cases.{HasBlind, BusyBlind, Used}

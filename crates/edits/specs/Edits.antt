@@ -14,7 +14,7 @@ use Rattle.tags.specs.Tags.{places}
 use Rattle.table.specs.Links.{holding}
 use Rattle.links.specs.Edits.{tagMoved, tagLinks}
 use Rattle.panel.specs.Panel.{Seat, Model, presentIn, reseated, relinked}
-use Rattle.panel.specs.Strip.{terminals}
+use Rattle.terminals.specs.Strip.{terminals}
 use Rattle.panel.specs.Calls.{checks, CallRule}
 use Rattle.seats.specs.Seats.{inUse, isBusy}
 use Rattle.params.specs.Numbers.{paramsOf, allowed}

@@ -3,7 +3,6 @@ pub mod Places
 pub mod Classes
 pub mod Shifts
 pub mod Calls
-pub mod Dropped
 pub mod Leaves
 pub mod Afresh
 pub mod Untouched

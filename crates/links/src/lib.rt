@@ -1,20 +1,19 @@
-// Document 01, "Edits": add a link to a table, remove a link, remove all links of a tag. Each answers how many surviving
-// links stand at another place than before; a refused edit hands the table back as it was. Whatever a table holds, every
-// call answers: one that is not sound is refused by 12.
+// Document 01, "Edits": add a link to a table, remove a link. Each answers how many surviving links stand at another place
+// than before; a refused edit hands the table back as it was. Whatever a table holds, every call answers: one that is not
+// sound is refused by 12.
 
 pub mod search;
 
 ghost use Prim.Native.Nat.{_≤_, _<_, suc};
 ghost use mathlib.Core.Path.{_≡_};
-ghost use mathlib.Core.Bool.{true, cond};
+ghost use mathlib.Core.Bool.{true};
 ghost use mathlib.Core.List.{_∷_, _++_};
-ghost use lib.Dec.{ltb};
 ghost use lib.ListN.{take, drop};
 ghost use Rattle.answers.specs.Answers.{refusal};
 ghost use Rattle.link.specs.Link.{keyOf};
 ghost use Rattle.table.specs.Links.{rank, heldOf, holding};
 ghost use Rattle.table.specs.Sound.{most, isSound};
-ghost use Rattle.links.specs.Edits.{stays, addChecks, tableAdd, tableRemove, tableDrop, edited, editedOf};
+ghost use Rattle.links.specs.Edits.{addChecks, tableAdd, tableRemove, edited, editedOf};
 use crate::search::below;
 use crate::search::holds;
 use crate::search::other_class;
@@ -34,26 +33,6 @@ pub struct Edited {
     pub answer: u8,
     pub moved: u64,
     pub table: Table,
-}
-
-// How many places a link takes where the links of a tag go.
-fn places_kept(link: Link, tag: u64) -> usize
-    ensures { λ r. ⌜ r ≡ cond (stays tag link) 1 0 ⌝ }
-{
-    let gone = link.tag as u64 == tag;
-    if gone { 0 } else { 1 }
-}
-
-// Whether a link that stays comes to another place, as a number to count with.
-fn places_moved(link: Link, tag: u64, old: usize, new: usize) -> u64
-    ensures { λ r. ⌜ r ≡ cond (stays tag link) (cond (ltb new old) 1 0) 0 ⌝ }
-{
-    let gone = link.tag as u64 == tag;
-    if gone {
-        return 0;
-    }
-    let closer = new < old;
-    if closer { 1 } else { 0 }
 }
 
 // The number that refuses a new link, in the paper's order, or DONE.
@@ -168,37 +147,5 @@ pub fn remove(table: Table, link: Link) -> Edited
         answer: DONE,
         moved: (count - 1 - place) as u64,
         table: shrunk,
-    }
-}
-
-// Removes all links of a tag; refused by 12. A tag that no link has removes nothing. Each link is stored at the next free
-// place, and only one that stays takes it.
-pub fn remove_tag(table: Table, tag: u64) -> Edited
-    ensures { λ r. ⌜ editedOf r ≡ edited (tableDrop tag) (heldOf table) ⌝ }
-{
-    if !table.is_sound() {
-        return Edited {
-            answer: NOT_SOUND,
-            moved: 0,
-            table,
-        };
-    }
-    let count = table.count;
-    let mut next = table;
-    let mut free: usize = 0;
-    let mut moved: u64 = 0;
-    let mut i: usize = 0;
-    while i < count {
-        let link = table.links[i];
-        next.links[free] = link;
-        moved += places_moved(link, tag, i, free);
-        free += places_kept(link, tag);
-        i += 1;
-    }
-    next.count = free;
-    Edited {
-        answer: DONE,
-        moved,
-        table: next,
     }
 }

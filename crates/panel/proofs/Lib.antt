@@ -1,5 +1,4 @@
 pub mod Seats
-pub mod Strips
 pub mod Walk
 pub mod Decides
 pub mod Checks

@@ -18,7 +18,7 @@ use Rattle.sound_blind.specs.Sound.{sound}
 use Rattle.tags.specs.Tags as tags
 use Rattle.tags.specs.Tags.{TagSet, places, put}
 use Rattle.panel.specs.Panel.{Seat, Model}
-use Rattle.panel.specs.Strip.{terminals}
+use Rattle.terminals.specs.Strip.{terminals}
 use Rattle.panel.specs.Sound.{seatsIn, soundSeat, soundSeats}
 
 -- whether a seat may stand beside the terminals that are taken

@@ -3,7 +3,6 @@
 
 pub mod calls;
 pub mod soundness;
-mod strip;
 
 ghost use mathlib.Core.Path.{_≡_};
 ghost use Rattle.panel.specs.Panel.{modelOf, bare};

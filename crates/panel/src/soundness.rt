@@ -1,13 +1,14 @@
 // Document 01, "Sound": a test that is total on any contents. The blinds first, tag by tag, with the terminals met so
 // far; then the links, of which the loop over their names only adds up.
 use crate::Panel;
-use crate::strip::Strip;
 use blind::Blind;
 use link::Link;
 use table::MOST;
 use table::Table;
 use tags::CELLS;
 use tags::Tags;
+use terminals::Strip;
+use terminals::TERMINALS;
 ghost use Prim.Native.Nat.{min};
 ghost use mathlib.Core.Path.{_≡_};
 ghost use mathlib.Core.Bool.{not, cond, _&&_};
@@ -15,11 +16,8 @@ ghost use Rattle.tags.specs.Tags.{tagsOf};
 ghost use Rattle.table.specs.Links.{heldOf};
 ghost use Rattle.table.specs.Sound.{most};
 ghost use Rattle.panel.specs.Panel.{modelOf};
-ghost use Rattle.panel.specs.Strip.{takenOf};
+ghost use Rattle.terminals.specs.Strip.{takenOf};
 ghost use Rattle.panel.specs.Sound.{allNamed, soundSeat, soundSeats, isSound};
-
-// The last terminal of the strip.
-const LAST_TERMINAL: u8 = 127;
 
 impl Panel {
     pub fn is_sound(self) -> bool
@@ -91,7 +89,7 @@ fn may_stand(taken: Strip, terminal: u8, blind: Blind) -> bool
     if taken.has(terminal) {
         return false;
     }
-    if LAST_TERMINAL < terminal {
+    if TERMINALS <= terminal as u64 {
         return false;
     }
     sound_blind::is_sound(blind)

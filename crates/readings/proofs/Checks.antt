@@ -8,7 +8,7 @@ use borrow.Author.Tests.{eq-eqb, ne-eqb}
 use Rattle.answers.specs.Answers.{refusal}
 use Rattle.answers.proofs.Refusals.{refused-by, passed-by, none-left}
 use Rattle.panel.specs.Panel.{Model}
-use Rattle.panel.specs.Strip.{terminals}
+use Rattle.terminals.specs.Strip.{terminals}
 use Rattle.panel.specs.Sound.{isSound}
 use Rattle.panel.specs.Calls.{Cells, lent, unsound}
 use Rattle.readings.specs.Strip.{stripRule}

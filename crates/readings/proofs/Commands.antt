@@ -18,7 +18,7 @@ use Rattle.tags.specs.Tags.{places}
 use Rattle.outputs.specs.Reports.{motorOf}
 use Rattle.table.specs.Sound as ofLinks
 use Rattle.panel.specs.Panel.{Seat, Model, presentIn}
-use Rattle.panel.specs.Strip.{terminals}
+use Rattle.terminals.specs.Strip.{terminals}
 use Rattle.panel.specs.Sound.{Sound, seatsIn, soundSeat, soundSeats, allNamed, isSound}
 use Rattle.panel.proofs.Decides.{sound-tested}
 use Rattle.panel.proofs.Walk.{left}

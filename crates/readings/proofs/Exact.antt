@@ -2,7 +2,7 @@
 -- case. Assumes nothing.
 use Rattle.answers.proofs.Exact.{Told, all-told, told}
 use Rattle.panel.specs.Panel.{Model}
-use Rattle.panel.specs.Strip.{terminals}
+use Rattle.terminals.specs.Strip.{terminals}
 use Rattle.panel.specs.Sound.{Tagged}
 use Rattle.panel.specs.Calls.{Cells}
 use Rattle.panel.proofs.Exact.{lent-decides, unsound-decides}

@@ -16,7 +16,7 @@ use Rattle.laws.proofs.Fills.{tabulate-at}
 use Rattle.tags.specs.Tags.{places}
 use Rattle.outputs.specs.Reports.{motorOf}
 use Rattle.panel.specs.Panel.{Seat, Model}
-use Rattle.panel.specs.Strip.{terminals}
+use Rattle.terminals.specs.Strip.{terminals}
 use Rattle.panel.specs.Sound.{Sound, seatsIn}
 use Rattle.panel.specs.Calls.{Cells}
 use Rattle.readings.specs.Strip.{commandAt, commands, stripRule}

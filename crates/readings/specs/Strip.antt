@@ -7,7 +7,7 @@ use lib.Dec.{eqb}
 use Rattle.laws.specs.Fills.{tabulate}
 use Rattle.outputs.specs.Reports.{motorOf}
 use Rattle.panel.specs.Panel.{Seat, Model}
-use Rattle.panel.specs.Strip.{terminals}
+use Rattle.terminals.specs.Strip.{terminals}
 use Rattle.panel.specs.Sound.{seatsIn}
 use Rattle.panel.specs.Calls.{row, lent, unsound, CallRule}
 

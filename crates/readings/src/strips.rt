@@ -7,13 +7,12 @@ use outputs::motor;
 use panel::Panel;
 use panel::calls::Answered;
 use tags::CELLS;
+use terminals::STRIP;
 ghost use mathlib.Core.Path.{_≡_};
 ghost use lib.ListN.{length};
-ghost use Rattle.panel.specs.Strip.{terminals};
+ghost use Rattle.terminals.specs.Strip.{terminals};
 ghost use Rattle.panel.specs.Calls.{row, Does};
 ghost use Rattle.readings.specs.Strip.{allOff, stripRule};
-
-const TERMINALS: usize = 128;
 
 const OFF: u8 = 0;
 
@@ -21,7 +20,7 @@ const OFF: u8 = 0;
 pub fn strip(panel: Panel, cells: &mut [u8]) -> Answered
     ensures { λ r. ⌜ Does stripRule panel (row (now (cells .entry))) r (row (now (cells .exit))) ⌝ }
 {
-    if cells.len() != TERMINALS {
+    if cells.len() != STRIP {
         return Answered {
             answer: WRONG_CELLS,
             count: 0,
@@ -56,7 +55,7 @@ fn clear(cells: &mut [u8])
     requires { ⌜ length (now cells) ≡ terminals ⌝ }
     ensures { λ r. ⌜ now (cells .exit) ≡ allOff ⌝ }
 {
-    for terminal in 0..TERMINALS {
+    for terminal in 0..STRIP {
         cells[terminal] = OFF;
     }
 }

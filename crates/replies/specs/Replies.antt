@@ -9,7 +9,7 @@ use Rattle.params.specs.Numbers.{rowOf}
 use Rattle.outputs.specs.Reports.{noReport}
 use Rattle.link.specs.Link.{linkOf}
 use Rattle.panel.specs.Panel.{Model, modelOf, bare}
-use Rattle.panel.specs.Strip.{terminals}
+use Rattle.terminals.specs.Strip.{terminals}
 use Rattle.panel.specs.Calls.{Cells, row, noCells, CallRule}
 use Rattle.telegrams.specs.Telegrams.{telegramRule}
 use Rattle.time_steps.specs.TimeSteps.{stepRule}

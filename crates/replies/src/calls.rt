@@ -1,7 +1,6 @@
 // A command carried out: the panel's own call, and its answer on the sheet.
 use crate::After;
 use crate::motors::OFF;
-use crate::motors::STRIP;
 use crate::motors::widened;
 use commands::Command;
 use commands::Edit;
@@ -22,6 +21,7 @@ use splices::splice_in;
 use splices::splice_out;
 use tags::CELLS;
 use telegrams::telegram;
+use terminals::STRIP;
 use texts::put_text;
 use time_steps::time_step;
 use wiring::add_link;

@@ -1,8 +1,6 @@
 // The motor commands of a strip reading, as wide as the cells of a report, so that both are shown alike.
-use seats::TERMINALS;
+use terminals::STRIP;
 ghost use mathlib.Core.Path.{_≡_};
-
-pub(crate) const STRIP: usize = TERMINALS as usize;
 
 pub(crate) const OFF: u8 = 0;
 

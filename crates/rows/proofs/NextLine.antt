@@ -1,6 +1,6 @@
 -- The next line of a row: what stands before the first line feed, and then the lines after it. By recursion on the row.
 -- Assumes nothing.
-use Prim.Native.Nat.{ℕ, suc, _+_, _-_, _<_}
+use Prim.Native.Nat.{ℕ, suc, _+_, _-_, _≤_, _<_}
 use native.Mathlib.Omega.{arith}
 use mathlib.Core.Path.{_≡_, refl, ap, _∙_}
 use mathlib.Core.Bool.{Bool, true, false, cond, not}
@@ -9,6 +9,7 @@ use lib.ListN.{length, take, drop, length-drop}
 use lib.Seq.{drop-drop}
 use lib.Dec.{eqb}
 use Rattle.words.specs.Words.{front, ahead}
+use Rattle.words.proofs.NextWord.{front-within}
 use Rattle.rows.specs.Lines.{until, lines}
 
 -- a row that is not empty: its first line, and then the lines after the line feed
@@ -42,3 +43,7 @@ line-turn xs start end h e =
     next-line from (omega (arith, h, left))
     ∙ ap (λ (k : ℕ). take k from ∷ lines (drop (suc k) from)) line
     ∙ ap (λ (l : List ℕ). take (end - start) from ∷ lines l) (drop-drop (suc (end - start)) start xs ∙ ap (λ (k : ℕ). drop k xs) after)
+
+-- a mark stands within the row, or at its end
+pub place-within : (mark : ℕ) (xs : List ℕ) (from at : ℕ) → from ≤ length xs → at ≡ from + until mark (drop from xs) → at ≤ length xs
+place-within mark xs from at h e = omega (arith, e, front-within (λ byte. not (eqb byte mark)) (drop from xs), length-drop from xs)

@@ -3,17 +3,16 @@
 use Prim.Native.Nat.{ℕ, zero, suc, _+_, _-_, _≤_, _<_, min}
 use native.Mathlib.Omega.{arith}
 use mathlib.Core.Path.{_≡_, refl, sym, ap, _∙_}
-use mathlib.Core.Bool.{Bool, true, false, not, _&&_}
+use mathlib.Core.Bool.{Bool, true, false, _&&_}
 use mathlib.Core.List.{List, [], _∷_}
 use lib.ListN.{length, take, drop, length-drop, drop-of-length-le}
 use lib.Seq.{take-length}
-use lib.Dec.{eqb, leb}
+use lib.Dec.{leb}
 use borrow.Author.Tests.{leb-true, leb-false}
 use Rattle.panel.specs.Panel.{Model}
 use Rattle.texts.specs.Text.{same}
 use Rattle.texts.specs.Sheet.{sheet}
 use Rattle.rows.specs.Lines.{until, lines}
-use Rattle.words.proofs.NextWord.{front-within}
 use Rattle.rows.proofs.NextLine.{line-turn}
 use Rattle.replies.specs.Replies.{Desk, lineDone}
 use Rattle.scripts.specs.Scripts.{Course, course, answerOn, heldTo, tried, followed}
@@ -38,10 +37,6 @@ drop-least n xs = go (leb n (length xs)) refl
         let least : length xs ≤ min n (length xs) = omega arith in
         let past : length xs ≤ n = omega arith in
         drop-of-length-le xs least ∙ sym (drop-of-length-le xs past)
-
--- a mark stands within the row, or at its end
-pub place-within : (mark : ℕ) (xs : List ℕ) (from at : ℕ) → from ≤ length xs → at ≡ from + until mark (drop from xs) → at ≤ length xs
-place-within mark xs from at h e = omega (arith, e, front-within (λ byte. not (eqb byte mark)) (drop from xs), length-drop from xs)
 
 -- ---- one line
 

@@ -10,7 +10,7 @@ use Rattle.laws.proofs.Deciding.{le, lt, and, said}
 use Rattle.laws.proofs.Any.{either-left, either-right}
 use Rattle.outputs.specs.Reports.{busy}
 use Rattle.panel.specs.Panel.{Seat, Model, isThere, presentIn}
-use Rattle.panel.specs.Strip.{terminals}
+use Rattle.terminals.specs.Strip.{terminals}
 use Rattle.panel.specs.Sound.{Tagged}
 use Rattle.seats.specs.Seats.{someSeat, standsWithin, inUse, busyAbove, busyFrom, passesEnd, wouldPass, isBusy}
 use Rattle.seats.specs.Cases.{HasBlind, BusyBlind, Used, BusyFrom, Passing}

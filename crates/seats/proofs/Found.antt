@@ -10,7 +10,7 @@ use Rattle.laws.proofs.Choices.{both, never-both}
 use Rattle.laws.proofs.Any.{Passes, any-found, any-made, any-none}
 use Rattle.tags.specs.Tags.{places}
 use Rattle.panel.specs.Panel.{Seat, Model}
-use Rattle.panel.specs.Strip.{terminals}
+use Rattle.terminals.specs.Strip.{terminals}
 use Rattle.panel.specs.Sound.{Tagged, seatsIn}
 use Rattle.seats.specs.Seats.{someSeat, standsWithin, inUse, passesEnd, wouldPass}
 

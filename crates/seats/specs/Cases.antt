@@ -6,7 +6,7 @@ use mathlib.Core.Bool.{true}
 use mathlib.Core.Option.{some}
 use Rattle.outputs.specs.Reports.{busy}
 use Rattle.panel.specs.Panel.{Seat, Model}
-use Rattle.panel.specs.Strip.{terminals}
+use Rattle.terminals.specs.Strip.{terminals}
 
 -- There is a blind with this tag.
 pub record HasBlind (tag : ℕ) (m : Model) : Type 0 where

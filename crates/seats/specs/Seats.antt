@@ -8,7 +8,7 @@ use Rattle.laws.specs.Any.{any}
 use Rattle.blind.specs.declared.Blind.{Blind}
 use Rattle.outputs.specs.Reports.{busy}
 use Rattle.panel.specs.Panel.{Seat, Model}
-use Rattle.panel.specs.Strip.{terminals}
+use Rattle.terminals.specs.Strip.{terminals}
 use Rattle.panel.specs.Sound.{seatsIn}
 
 -- Whether a seat of the panel passes a test.

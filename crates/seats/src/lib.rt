@@ -7,9 +7,7 @@ ghost use Rattle.tags.specs.Tags.{tagsOf};
 ghost use Rattle.seats.specs.Seats.{within, busyFor, passing};
 use blind::Blind;
 use tags::Tags;
-
-// Terminals are the numbers below this one.
-pub const TERMINALS: u64 = 128;
+use terminals::TERMINALS;
 
 // Whether a tag stands at a terminal from `from` on and below `end`.
 pub fn stands_within(present: Tags, tag: usize, terminal: u8, from: u64, end: u64) -> bool

@@ -4,7 +4,7 @@ use Rattle.laws.specs.Decides.{Decides}
 use Rattle.laws.proofs.Deciding.{le, lt, eq}
 use Rattle.answers.proofs.Exact.{Told, all-told, told}
 use Rattle.panel.specs.Panel.{Model}
-use Rattle.panel.specs.Strip.{terminals}
+use Rattle.terminals.specs.Strip.{terminals}
 use Rattle.panel.specs.Sound.{Tagged}
 use Rattle.panel.specs.Calls.{Cells}
 use Rattle.panel.proofs.Exact.{checks-told}

@@ -17,7 +17,7 @@ use Rattle.tags.specs.Tags.{places, tagsOf}
 use Rattle.panel.specs.declared.Panel.{Panel}
 use Rattle.panel.specs.Panel.{Model, nobody, placeOf, modelOf}
 use Rattle.panel.specs.Fields.{withTerminals}
-use Rattle.panel.specs.Strip.{terminals}
+use Rattle.terminals.specs.Strip.{terminals}
 use Rattle.panel.specs.Calls.{CallRule, noCells, Does}
 use Rattle.panel.proofs.Checks.{passed}
 use Rattle.panel.proofs.Rules.{refuses-with, does}

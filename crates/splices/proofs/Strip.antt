@@ -7,7 +7,7 @@ use mathlib.Core.Bool.{false, _||_}
 use lib.Dec.{eqb, ltb, leb}
 use borrow.Author.Tests.{eqb-false, leb-false, ltb-false, lt-ltb, le-ltb}
 use Rattle.laws.proofs.Any.{neither-left, neither-right}
-use Rattle.panel.specs.Strip.{terminals}
+use Rattle.terminals.specs.Strip.{terminals}
 use Rattle.splices.specs.Splices.{offStrip}
 
 -- what is left of the strip is less than n exactly if the sum passes its end

@@ -10,7 +10,7 @@ use lib.ListN.{getD}
 use Rattle.laws.specs.Fills.{filled}
 use Rattle.answers.specs.Rules.{edit}
 use Rattle.tags.specs.Tags.{TagSet, places}
-use Rattle.panel.specs.Strip.{terminals}
+use Rattle.terminals.specs.Strip.{terminals}
 use Rattle.panel.specs.Calls.{checks, CallRule}
 use Rattle.seats.specs.Seats.{inUse, busyFrom, wouldPass}
 use Rattle.splices.specs.Splices.{offStrip, shifted}

@@ -7,7 +7,7 @@ use mathlib.Core.List.{[], _∷_}
 use lib.Dec.{eqb, ltb, leb}
 use Rattle.answers.specs.Rules.{edit}
 use Rattle.panel.specs.Panel.{Model, presentIn, eachSeat}
-use Rattle.panel.specs.Strip.{terminals}
+use Rattle.terminals.specs.Strip.{terminals}
 use Rattle.panel.specs.Calls.{checks, CallRule}
 use Rattle.seats.specs.Seats.{inUse, busyFrom, wouldPass}
 use Rattle.seats.specs.Untouched.{blindAt}

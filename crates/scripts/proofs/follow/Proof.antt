@@ -7,7 +7,8 @@ use lib.ListN.{length, drop}
 use borrow.Author.Needs.{needs}
 use Rattle.rows.specs.Lines.{lines}
 use Rattle.scripts.specs.Scripts.{courseOf, followed}
-use Rattle.scripts.proofs.LineByLine.{place-within, followed-more, followed-end}
+use Rattle.rows.proofs.NextLine.{place-within}
+use Rattle.scripts.proofs.LineByLine.{followed-more, followed-end}
 use Rattle.scripts.proofs.follow.Statement.{statement}
 use Rattle.scripts.proofs.follow.Tie as tie
 

@@ -5,7 +5,8 @@ use mathlib.Core.Path.{sym}
 use lib.Seq.{length-take-le}
 use borrow.Author.Needs.{needs}
 use Rattle.panel.specs.Panel.{modelOf}
-use Rattle.scripts.proofs.LineByLine.{place-within, line-tried}
+use Rattle.rows.proofs.NextLine.{place-within}
+use Rattle.scripts.proofs.LineByLine.{line-tried}
 use Rattle.scripts.proofs.try_line.Statement.{statement}
 use Rattle.scripts.proofs.try_line.Tie as tie
 

@@ -7,9 +7,9 @@ use borrow.Author.Needs.{needs}
 use borrow.Author.Tests.{not-true, not-false}
 use Rattle.laws.proofs.Fills.{long}
 use Rattle.panel.specs.declared.Panel.{Panel}
-use Rattle.panel.specs.declared.strip.Strip.{Strip}
+use Rattle.terminals.specs.declared.Strip.{Strip}
 use Rattle.panel.specs.Panel.{placeOf, seatsOf, modelOf}
-use Rattle.panel.specs.Strip.{takenOf}
+use Rattle.terminals.specs.Strip.{takenOf}
 use Rattle.panel.specs.Sound.{soundSeats}
 use Rattle.panel.proofs.Seats.{seat-present, seat-absent}
 use Rattle.panel.proofs.Walk.{passes, left, pass-start, pass-absent, pass-more, pass-fails, pass-end}

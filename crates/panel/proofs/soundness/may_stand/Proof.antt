@@ -1,3 +1,4 @@
+use native.Mathlib.Omega.{arith}
 use borrow.Author.Needs.{needs}
 use borrow.Author.Tests.{le-leb, lt-leb}
 use Rattle.panel.specs.Sound.{soundSeat}
@@ -11,6 +12,6 @@ may-stand-spec =
     (tie.spec
     (λ c κs. search needs)
     (λ c. simp (c .if1 .taken, ← c .before .has .ensures))
-    (λ c. simp (lt-leb _ _ (c .if2 .taken), c .before .if1 .left, ← c .before .before .has .ensures))
+    (λ c. simp (lt-leb (c .before .before .before .args .terminal) 127 (omega (arith, c .if2 .taken)), c .before .if1 .left, ← c .before .before .has .ensures))
     (λ c κs. search needs)
-    (λ c. simp (c .is-sound .ensures, le-leb _ _ (c .before .if2 .left), c .before .before .if1 .left, ← c .before .before .before .has .ensures)))
+    (λ c. simp (c .is-sound .ensures, le-leb (c .before .before .before .before .args .terminal) 127 (omega (arith, c .before .if2 .left)), c .before .before .if1 .left, ← c .before .before .before .has .ensures)))

@@ -10,7 +10,7 @@ use borrow.Author.Needs.{needs}
 use borrow.Author.Tests.{not-true, not-false}
 use Rattle.laws.proofs.Fills.{long}
 use Rattle.panel.specs.Panel.{placeOf, modelOf}
-use Rattle.panel.specs.Strip.{terminals}
+use Rattle.terminals.specs.Strip.{terminals}
 use Rattle.panel.specs.Sound.{Sound, isSound}
 use Rattle.panel.specs.Calls.{row}
 use Rattle.panel.proofs.Seats.{seat-present, seat-absent}
