@@ -26,7 +26,7 @@ use Rattle.sound_blind.specs.Sound.{Sound}
 use Rattle.inputs.specs.declared.Command.{Command}
 use Rattle.inputs.specs.Inputs.{runTo, towards, aimedBetween, aimed, followed, sapbp, acted}
 use Rattle.duties.specs.Rulers.{dutyOf, isFree}
-use Rattle.rules.specs.declared.Input.{Input}
+use Rattle.values.specs.declared.Input.{Input}
 use Rattle.rules.specs.Rules.{commanded, heeded}
 use Rattle.conduct.specs.Courses.{Stands}
 use Rattle.conduct.specs.Ends.{Engaged, waits, runs, untilEnd, Reaches}

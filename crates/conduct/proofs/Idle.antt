@@ -10,8 +10,8 @@ use Rattle.inputs.specs.declared.Aim.{Aim}
 use Rattle.inputs.specs.declared.Command.{Command}
 use Rattle.inputs.specs.Inputs.{aimed, followed, sapbp, acted}
 use Rattle.duties.specs.Rulers.{dutyOf, isFree}
-use Rattle.rules.specs.declared.Flag.{Flag}
-use Rattle.rules.specs.declared.Input.{Input}
+use Rattle.values.specs.declared.Flag.{Flag}
+use Rattle.values.specs.declared.Input.{Input}
 use Rattle.rules.specs.Rules.{ruled, withFlag, flagged, commanded, heeded}
 use Rattle.conduct.specs.Undisturbed.{flagsAfter, SameDuty, Aimless, Idle}
 

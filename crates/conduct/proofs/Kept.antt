@@ -16,7 +16,7 @@ use Rattle.inputs.specs.declared.Aim.{Aim}
 use Rattle.inputs.specs.declared.Command.{Command}
 use Rattle.inputs.specs.Inputs.{mud, steps, ssud, towards, aimed, followed, sapbp, acted}
 use Rattle.duties.specs.Rulers.{dutyOf, sameDuty, isFree}
-use Rattle.rules.specs.declared.Input.{Input}
+use Rattle.values.specs.declared.Input.{Input}
 use Rattle.rules.specs.Rules.{orderOf, ruled, withFlag, flagged, commanded, heeded}
 use Rattle.conduct.specs.Courses.{Stands}
 

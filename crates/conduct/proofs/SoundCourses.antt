@@ -14,10 +14,10 @@ use Rattle.kinds.specs.Kinds.{wa, ra, fa, fo, mud, stop, ssud}
 use Rattle.inputs.specs.declared.Command.{Command}
 use Rattle.duties.specs.declared.Duty.{Duty}
 use Rattle.duties.specs.Rulers.{dutyOf, sameDuty, isFree}
-use Rattle.rules.specs.declared.Input.{Input}
+use Rattle.values.specs.declared.Input.{Input}
 use Rattle.rules.specs.Rules.{orderOf, ruled, withFlag, flagged, commanded, heeded}
 use Rattle.rules.specs.Edits.{rewritten}
-use Rattle.rules.specs.Telegrams.{commandOf, inputOf}
+use Rattle.values.specs.Telegrams.{commandOf, inputOf}
 use Rattle.conduct.specs.Courses.{ByteOf, OfClass, Event, telegram, passes, happened, after}
 use Rattle.conduct.proofs.SoundMotions.{flags-kept, millisecond-sound}
 use Rattle.conduct.proofs.SoundInputs.{acted-sound}

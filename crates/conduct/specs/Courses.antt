@@ -7,7 +7,7 @@ use Rattle.blind.specs.declared.Blind.{Blind}
 use Rattle.blind.specs.Millisecond.{millisecond}
 use Rattle.outputs.specs.Reports.{motorOf}
 use Rattle.inputs.specs.declared.Command.{Command}
-use Rattle.rules.specs.declared.Input.{Input}
+use Rattle.values.specs.declared.Input.{Input}
 use Rattle.rules.specs.Rules.{heeded}
 
 -- "Byte any": the value of a byte is at most 255.

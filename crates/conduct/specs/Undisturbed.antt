@@ -12,7 +12,7 @@ use Rattle.inputs.specs.declared.Aim.{Aim}
 use Rattle.inputs.specs.declared.Command.{Command}
 use Rattle.inputs.specs.Inputs.{aimed}
 use Rattle.duties.specs.Rulers.{dutyOf, sameDuty, isFree}
-use Rattle.rules.specs.declared.Input.{Input}
+use Rattle.values.specs.declared.Input.{Input}
 use Rattle.rules.specs.Rules.{withFlag, heeded}
 use Rattle.conduct.specs.Courses.{OfClass, Event, telegram, passes}
 

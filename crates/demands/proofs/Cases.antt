@@ -20,7 +20,7 @@ use Rattle.sound_blind.specs.Sound.{soundWait, soundRunning, soundMotion, sound
 use Rattle.inputs.specs.Inputs.{mud, ssud, towards, aimedBetween, aimed, followed, sapbp, acted}
 use Rattle.duties.specs.Rulers.{rulerOf, dutyUnder, dutyOf}
 use Rattle.rules.specs.Rules.{ruled, flagged, commanded, heeded}
-use Rattle.rules.specs.Telegrams.{commandOf, inputOf}
+use Rattle.values.specs.Telegrams.{commandOf, inputOf}
 use Rattle.kinds.specs.Kinds.{classOf}
 use Rattle.link.specs.Link.{keyOf, mayFollow}
 use Rattle.link.specs.Link.{inRange as linkInRange}

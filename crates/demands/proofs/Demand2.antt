@@ -22,7 +22,7 @@ use Rattle.blind.specs.Millisecond.{millisecond, milliseconds}
 use Rattle.outputs.specs.Reports.{busyAt, busy}
 use Rattle.sound_blind.specs.Sound as ofBlind
 use Rattle.rules.specs.Rules.{heeded}
-use Rattle.rules.specs.Telegrams.{inputOf}
+use Rattle.values.specs.Telegrams.{inputOf}
 use Rattle.rules.specs.Edits.{rewritten}
 use Rattle.conduct.proofs.SoundCourses.{heeded-sound, input-of-class}
 use Rattle.conduct.proofs.Owed.{owed, owedAt, heeded-keeps}

@@ -11,10 +11,10 @@ use lib.Dec.{eqb}
 use borrow.Author.Tests.{ne-eqb}
 use Rattle.blind.specs.declared.Blind.{Blind}
 use Rattle.duties.specs.declared.Duty.{Duty}
-use Rattle.rules.specs.declared.Input.{Input}
+use Rattle.values.specs.declared.Input.{Input}
 use Rattle.duties.specs.Rulers.{dutyOf, isFree}
 use Rattle.rules.specs.Rules.{heeded}
-use Rattle.rules.specs.Telegrams.{commandOf, inputOf}
+use Rattle.values.specs.Telegrams.{commandOf, inputOf}
 use Rattle.conduct.specs.Ruling.{Rules}
 use Rattle.conduct.proofs.Ruling.{duty-rules, only-duty}
 use Rattle.conduct.proofs.Idle.{dropped}

@@ -17,7 +17,7 @@ use Rattle.blind.specs.Millisecond.{milliseconds}
 use Rattle.blind.proofs.Cutting.{cut}
 use Rattle.outputs.specs.Reports.{command, motorAt, motorOf}
 use Rattle.rules.specs.Rules.{heeded}
-use Rattle.rules.specs.Telegrams.{inputOf}
+use Rattle.values.specs.Telegrams.{inputOf}
 use Rattle.blind.proofs.AtOnce.{waiting, wait-over}
 use Rattle.conduct.proofs.Idle.{idle-keeps}
 use Rattle.conduct.proofs.Undisturbed.{milliseconds-flags}

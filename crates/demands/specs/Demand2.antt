@@ -9,7 +9,7 @@ use Rattle.blind.specs.declared.Blind.{Blind}
 use Rattle.heights.specs.declared.Direction.{Direction}
 use Rattle.outputs.specs.Reports.{command}
 use Rattle.rules.specs.Rules.{heeded}
-use Rattle.rules.specs.Telegrams.{inputOf}
+use Rattle.values.specs.Telegrams.{inputOf}
 use Rattle.conduct.specs.Pauses.{opposite, offs}
 use Rattle.conduct.specs.Undisturbed.{Idle}
 use Rattle.link.specs.declared.Link.{Link}

@@ -9,8 +9,8 @@ use Rattle.inputs.specs.declared.Command.{Command}
 use Rattle.inputs.specs.Inputs.{acted}
 use Rattle.duties.specs.declared.Duty.{Duty}
 use Rattle.duties.specs.Rulers.{dutyOf, sameDuty, isFree}
-use Rattle.rules.specs.declared.Flag.{Flag}
-use Rattle.rules.specs.declared.Input.{Input}
+use Rattle.values.specs.declared.Flag.{Flag}
+use Rattle.values.specs.declared.Input.{Input}
 
 -- "Up and Down order a full run, Hold and Free order a stop."
 abbrev pub orderOf : Duty → Command

@@ -1,32 +1,18 @@
 // Document 01, "Who rules a blind": what a telegram does to a blind. A new flag or new parameters may
 // change the duty, and a changed duty brings its order; a command reaches the motor only under the duty Free.
 pub mod edits;
-pub mod telegrams;
 
 use blind::Blind;
 use blind::Flags;
-use blind::Forced;
 use duties::Duty;
 use duties::rulers::duty;
 use heights::Direction;
 use inputs::Command;
 use inputs::orders::act;
+use values::Flag;
+use values::Input;
 ghost use mathlib.Core.Path.{_≡_};
 ghost use Rattle.rules.specs.Rules.{orderOf, ruled, withFlag, flagged, commanded, heeded};
-
-// Kinds 0 to 3: one of the flags, and what it becomes.
-pub enum Flag {
-    Wind(bool),
-    Rain(bool),
-    Frost(bool),
-    Force(Forced),
-}
-
-// What a telegram says to a blind: kinds 0 to 3 set a flag, the others command.
-pub enum Input {
-    Set(Flag),
-    Command(Command),
-}
 
 pub fn heed(blind: Blind, input: Input) -> Blind
     ensures { λ r. ⌜ r ≡ heeded input blind ⌝ }

@@ -14,7 +14,7 @@ use borrow.Author.Tests.{eqb-true}
 use Rattle.tags.specs.Tags.{TagSet, places, tagsOf}
 use Rattle.blind.specs.declared.Blind.{Blind}
 use Rattle.rules.specs.Rules.{heeded}
-use Rattle.rules.specs.Telegrams.{inputOf}
+use Rattle.values.specs.Telegrams.{inputOf}
 use Rattle.link.specs.declared.Link.{Link}
 use Rattle.table.specs.Links.{heldOf}
 use Rattle.table.specs.Sound as ofLinks

@@ -19,7 +19,7 @@ use Rattle.blind.specs.declared.Blind.{Blind}
 use Rattle.outputs.specs.Reports.{noReport, report}
 use Rattle.outputs.proofs.Reports.{report-same}
 use Rattle.rules.specs.Rules.{heeded}
-use Rattle.rules.specs.Telegrams.{inputOf}
+use Rattle.values.specs.Telegrams.{inputOf}
 use Rattle.link.specs.declared.Link.{Link}
 use Rattle.laws.specs.Kept.{kept}
 use Rattle.laws.proofs.Kept.{kept-swap}

@@ -10,7 +10,7 @@ use Rattle.tags.specs.Tags.{places}
 use Rattle.table.specs.Links.{linksTo}
 use Rattle.sound_blind.specs.Sound as ofBlind
 use Rattle.rules.specs.Rules.{heeded}
-use Rattle.rules.specs.Telegrams.{inputOf}
+use Rattle.values.specs.Telegrams.{inputOf}
 use Rattle.conduct.proofs.SoundCourses.{heeded-sound, input-of-class}
 use Rattle.link.specs.declared.Link.{Link}
 use Rattle.panel.specs.Panel.{Seat, Model, presentIn, eachSeat, onBlind}

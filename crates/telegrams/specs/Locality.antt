@@ -4,7 +4,7 @@ use Prim.Native.Nat.{ℕ}
 use mathlib.Core.List.{List, [], _∷_}
 use Rattle.blind.specs.declared.Blind.{Blind}
 use Rattle.rules.specs.Rules.{heeded}
-use Rattle.rules.specs.Telegrams.{inputOf}
+use Rattle.values.specs.Telegrams.{inputOf}
 use Rattle.link.specs.declared.Link.{Link}
 use Rattle.table.specs.Links.{linksTo, linksOf}
 use Rattle.panel.specs.Panel.{Model}

@@ -9,7 +9,7 @@ use lib.Dec.{eqb, ltb}
 use Rattle.answers.specs.Answers.{Check}
 use Rattle.tags.specs.Tags.{places}
 use Rattle.rules.specs.Rules.{heeded}
-use Rattle.rules.specs.Telegrams.{inputOf}
+use Rattle.values.specs.Telegrams.{inputOf}
 use Rattle.link.specs.declared.Link.{Link}
 use Rattle.link.specs.Link.{isAddress}
 use Rattle.table.specs.Links.{linksTo, noLinkTo, startOf, addressClass}

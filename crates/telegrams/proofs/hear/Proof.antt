@@ -1,7 +1,7 @@
 -- The kind and the value say the input, and the blind heeds it.
 use mathlib.Core.Path.{ap, _∙_}
 use borrow.Author.Needs.{needs}
-use Rattle.rules.specs.declared.Input.{Input}
+use Rattle.values.specs.declared.Input.{Input}
 use Rattle.rules.specs.Rules.{heeded}
 use Rattle.telegrams.proofs.hear.Statement.{statement}
 use Rattle.telegrams.proofs.hear.Tie as tie

@@ -1,6 +1,4 @@
 // Document 01, "Links and telegrams": what a kind with a value says to a blind.
-use crate::Flag;
-use crate::Input;
 use blind::Forced;
 use heights::Direction;
 use inputs::Command;
@@ -12,7 +10,21 @@ use kinds::SSUD;
 use kinds::STOP;
 use kinds::WA;
 ghost use mathlib.Core.Path.{_≡_};
-ghost use Rattle.rules.specs.Telegrams.{directionOf, forcedOf, commandOf, inputOf};
+ghost use Rattle.values.specs.Telegrams.{directionOf, forcedOf, commandOf, inputOf};
+
+// Kinds 0 to 3: one of the flags, and what it becomes.
+pub enum Flag {
+    Wind(bool),
+    Rain(bool),
+    Frost(bool),
+    Force(Forced),
+}
+
+// What a telegram says to a blind: kinds 0 to 3 set a flag, the others command.
+pub enum Input {
+    Set(Flag),
+    Command(Command),
+}
 
 impl Input {
     pub fn of(kind: u8, value: u8) -> Input

@@ -1,8 +1,8 @@
 -- `forced_of`: the value that was matched, or that it is neither 2 nor 3, picks the side of each choice.
 -- Assumes nothing.
 use borrow.Author.Tests.{ne-eqb}
-use Rattle.rules.proofs.telegrams.forced_of.Statement.{statement}
-use Rattle.rules.proofs.telegrams.forced_of.Tie as tie
+use Rattle.values.proofs.forced_of.Statement.{statement}
+use Rattle.values.proofs.forced_of.Tie as tie
 
 pub forced-of-spec : {M : Type 1} → statement M
 forced-of-spec =

@@ -2,9 +2,9 @@
 -- Assumes nothing.
 use borrow.Author.Needs.{needs}
 use borrow.Author.Tests.{ne-eqb}
-use Rattle.rules.specs.Telegrams.{commandOf}
-use Rattle.rules.proofs.telegrams.command_of.Statement.{statement}
-use Rattle.rules.proofs.telegrams.command_of.Tie as tie
+use Rattle.values.specs.Telegrams.{commandOf}
+use Rattle.values.proofs.command_of.Statement.{statement}
+use Rattle.values.proofs.command_of.Tie as tie
 
 pub command-of-spec : {M : Type 1} → statement M
 unfolding commandOf

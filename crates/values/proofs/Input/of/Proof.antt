@@ -2,9 +2,9 @@
 -- Assumes nothing.
 use borrow.Author.Needs.{needs}
 use borrow.Author.Tests.{ne-eqb}
-use Rattle.rules.specs.Telegrams.{inputOf}
-use Rattle.rules.proofs.Input.of.Statement.{statement}
-use Rattle.rules.proofs.Input.of.Tie as tie
+use Rattle.values.specs.Telegrams.{inputOf}
+use Rattle.values.proofs.Input.of.Statement.{statement}
+use Rattle.values.proofs.Input.of.Tie as tie
 
 pub of-spec : {M : Type 1} → statement M
 unfolding inputOf

@@ -7,8 +7,8 @@ use Rattle.heights.specs.declared.Direction.{Direction}
 use Rattle.blind.specs.declared.Forced.{Forced}
 use Rattle.kinds.specs.Kinds.{wa, ra, fa, fo, mud, stop, ssud}
 use Rattle.inputs.specs.declared.Command.{Command}
-use Rattle.rules.specs.declared.Flag.{Flag}
-use Rattle.rules.specs.declared.Input.{Input}
+use Rattle.values.specs.declared.Flag.{Flag}
+use Rattle.values.specs.declared.Input.{Input}
 
 -- "MUD and SSUD: 0 up, 1 down."
 abbrev pub directionOf : ℕ → Direction

@@ -1,8 +1,8 @@
 -- `direction_of`: whether the value is 0 picks the side of the choice.
 -- Assumes nothing.
 use borrow.Author.Tests.{ne-eqb}
-use Rattle.rules.proofs.telegrams.direction_of.Statement.{statement}
-use Rattle.rules.proofs.telegrams.direction_of.Tie as tie
+use Rattle.values.proofs.direction_of.Statement.{statement}
+use Rattle.values.proofs.direction_of.Tie as tie
 
 pub direction-of-spec : {M : Type 1} → statement M
 direction-of-spec =
