@@ -14,7 +14,9 @@ use Rattle.telegrams.specs.Locality.{reached}
 use Rattle.readings.specs.Strip.{stripRule}
 use Rattle.readings.specs.Inventory.{inventoryRule}
 use Rattle.seats.specs.Untouched.{blindAt, Untouched}
-use Rattle.edits.proofs.Untouched.{install-untouched, remove-untouched, write-untouched}
+use Rattle.installs.proofs.Untouched.{install-untouched}
+use Rattle.removals.proofs.Untouched.{remove-untouched}
+use Rattle.writes.proofs.Untouched.{write-untouched}
 use Rattle.wiring.proofs.Untouched.{add-untouched, remove-link-untouched, add-seats, remove-link-seats}
 use Rattle.splices.specs.Splices.{OnlyTerminals}
 use Rattle.splices.proofs.Untouched.{splice-in-only, splice-out-only}

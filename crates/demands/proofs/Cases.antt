@@ -37,7 +37,7 @@ use Rattle.telegrams.specs.Telegrams.{isOutside, linkChecks, served, delivered,
 use Rattle.time_steps.specs.TimeSteps.{afterStep, stepRule}
 use Rattle.readings.specs.Strip.{commandAt, commands, stripRule}
 use Rattle.seats.specs.Seats.{someSeat, inUse, busyFrom, wouldPass}
-use Rattle.edits.specs.Edits.{installRule}
+use Rattle.installs.specs.Installs.{installRule}
 use Rattle.wiring.specs.Wiring.{addRule}
 use Rattle.splices.specs.Splices.{offStrip, shifted, raised, spliceInRule}
 use Rattle.panel.specs.Panel.{bare}

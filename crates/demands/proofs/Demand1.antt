@@ -19,8 +19,12 @@ use Rattle.time_steps.proofs.Exact.{step-told}
 use Rattle.readings.specs.Strip.{stripRule}
 use Rattle.readings.specs.Inventory.{inventoryRule}
 use Rattle.readings.proofs.Exact.{strip-told, inventory-told}
-use Rattle.edits.specs.Edits.{installRule, removeRule, writeRule}
-use Rattle.edits.proofs.Exact.{install-told, remove-told, write-told}
+use Rattle.installs.specs.Installs.{installRule}
+use Rattle.installs.proofs.Exact.{install-told}
+use Rattle.removals.specs.Removals.{removeRule}
+use Rattle.removals.proofs.Exact.{remove-told}
+use Rattle.writes.specs.Writes.{writeRule}
+use Rattle.writes.proofs.Exact.{write-told}
 use Rattle.wiring.specs.Wiring.{addRule, removeLinkRule}
 use Rattle.wiring.proofs.Exact.{add-told, remove-link-told}
 use Rattle.splices.specs.Splices.{spliceInRule, spliceOutRule}

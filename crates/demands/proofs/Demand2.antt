@@ -40,8 +40,10 @@ use Rattle.time_steps.proofs.Soundness.{step-sound}
 use Rattle.seats.specs.Seats.{isBusy}
 use Rattle.seats.specs.Untouched.{blindAt}
 use Rattle.params.specs.Numbers.{paramsOf}
-use Rattle.edits.specs.Edits.{seatRewritten, installRule, writeRule}
-use Rattle.edits.proofs.Passed.{installable, writable}
+use Rattle.installs.specs.Installs.{installRule}
+use Rattle.installs.proofs.Passed.{installable}
+use Rattle.writes.specs.Writes.{seatRewritten, writeRule}
+use Rattle.writes.proofs.Passed.{writable}
 use Rattle.demands.specs.Calls.{Call, telegram, timeStep, strip, install, removeBlind, writeParams, addLink, removeLink, spliceIn, spliceOut, inventory, ruleOf, does}
 use Rattle.demands.specs.Runs.{Run, Each, gives, lasts, lasting}
 use Rattle.demands.specs.Demand2.{Moment, pauseIn, moments, trace, Stays, Paused}

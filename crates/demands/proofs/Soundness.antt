@@ -22,8 +22,12 @@ use Rattle.telegrams.proofs.Soundness.{telegram-keeps}
 use Rattle.time_steps.proofs.Soundness.{step-keeps}
 use Rattle.readings.specs.Strip.{stripRule}
 use Rattle.readings.specs.Inventory.{inventoryRule}
-use Rattle.edits.specs.Edits.{installRule, removeRule, writeRule}
-use Rattle.edits.proofs.Soundness.{install-keeps, remove-keeps, write-keeps}
+use Rattle.installs.specs.Installs.{installRule}
+use Rattle.installs.proofs.Soundness.{install-keeps}
+use Rattle.removals.specs.Removals.{removeRule}
+use Rattle.removals.proofs.Soundness.{remove-keeps}
+use Rattle.writes.specs.Writes.{writeRule}
+use Rattle.writes.proofs.Soundness.{write-keeps}
 use Rattle.wiring.specs.Wiring.{addRule, removeLinkRule}
 use Rattle.wiring.proofs.Soundness.{add-keeps, remove-link-keeps}
 use Rattle.splices.specs.Splices.{spliceInRule, spliceOutRule}

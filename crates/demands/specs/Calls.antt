@@ -10,7 +10,9 @@ use Rattle.telegrams.specs.Telegrams.{telegramRule}
 use Rattle.time_steps.specs.TimeSteps.{stepRule}
 use Rattle.readings.specs.Strip.{stripRule}
 use Rattle.readings.specs.Inventory.{inventoryRule}
-use Rattle.edits.specs.Edits.{installRule, removeRule, writeRule}
+use Rattle.installs.specs.Installs.{installRule}
+use Rattle.removals.specs.Removals.{removeRule}
+use Rattle.writes.specs.Writes.{writeRule}
 use Rattle.wiring.specs.Wiring.{addRule, removeLinkRule}
 use Rattle.splices.specs.Splices.{spliceInRule, spliceOutRule}
 

@@ -12,7 +12,9 @@ use Rattle.panel.specs.Calls.{Cells}
 use Rattle.telegrams.specs.Cases.{telegramCases}
 use Rattle.time_steps.specs.Cases.{stepCases}
 use Rattle.readings.specs.Cases.{stripCases, inventoryCases}
-use Rattle.edits.specs.Cases.{installCases, removeCases, writeCases}
+use Rattle.installs.specs.Cases.{installCases}
+use Rattle.removals.specs.Cases.{removeCases}
+use Rattle.writes.specs.Cases.{writeCases}
 use Rattle.wiring.specs.Cases.{addCases, removeLinkCases}
 use Rattle.splices.specs.Cases.{inCases, outCases}
 use Rattle.demands.specs.Calls.{Call, telegram, timeStep, strip, install, removeBlind, writeParams, addLink, removeLink, spliceIn, spliceOut, inventory, ruleOf, does}

@@ -1,13 +1,15 @@
 -- Document 01, "Numbers the panel answers": what the edits ask of the seats, the terminals and blinds of the present tags.
 -- Assumes nothing.
 use Prim.Native.Nat.{ℕ, _+_}
-use mathlib.Core.Bool.{Bool, false, _&&_}
+use mathlib.Core.Bool.{Bool, false, not, _&&_}
+use mathlib.Core.List.{List, [], _∷_}
 use mathlib.Core.Option.{Option, none, some}
 use lib.Dec.{ltb, leb}
 use Rattle.laws.specs.Any.{any}
+use Rattle.answers.specs.Answers.{Check}
 use Rattle.blind.specs.declared.Blind.{Blind}
 use Rattle.outputs.specs.Reports.{busy}
-use Rattle.panel.specs.Panel.{Seat, Model}
+use Rattle.panel.specs.Panel.{Seat, Model, presentIn}
 use Rattle.terminals.specs.Strip.{terminals}
 use Rattle.panel.specs.Sound.{seatsIn}
 
@@ -52,3 +54,7 @@ wouldPass from n = someSeat (passesEnd from n)
 abbrev pub isBusy : Option Seat → Bool
 isBusy none = false
 isBusy (some seat) = busy (seat .blind)
+
+-- "Remove blind and write parameters 2, 3."
+abbrev pub namedChecks : ℕ → Model → List Check
+namedChecks tag m = (not (presentIn m tag), 2) ∷ (isBusy (m .seats tag), 3) ∷ []

@@ -1,13 +1,20 @@
-// Document 01, "Numbers the panel answers": what the edits ask of one tag, its terminal and its blind. A call asks it of
-// tag after tag, in its own body; an absent tag carries nothing, whatever stands at its place.
-
-ghost use mathlib.Core.Path.{_≡_};
-ghost use mathlib.Core.Bool.{_&&_};
-ghost use Rattle.tags.specs.Tags.{tagsOf};
-ghost use Rattle.seats.specs.Seats.{within, busyFor, passing};
+// Document 01, "Numbers the panel answers": what the edits ask of one tag, its terminal and its blind; of tag after tag in
+// the call's own body, or of the tag that the call names. An absent tag carries nothing, whatever stands at its place.
+use answers::BUSY;
+use answers::DONE;
+use answers::NO_BLIND;
+use answers::OUT_OF_RANGE;
 use blind::Blind;
 use tags::Tags;
 use terminals::TERMINALS;
+ghost use mathlib.Core.Path.{_≡_};
+ghost use mathlib.Core.Bool.{not, _&&_};
+ghost use mathlib.Core.List.{[], _∷_};
+ghost use Rattle.answers.specs.Answers.{refusal};
+ghost use Rattle.outputs.specs.Reports.{busy};
+ghost use Rattle.tags.specs.Tags.{tagsOf};
+ghost use Rattle.panel.specs.Calls.{outside};
+ghost use Rattle.seats.specs.Seats.{within, busyFor, passing};
 
 // Whether a tag stands at a terminal from `from` on and below `end`.
 pub fn stands_within(present: Tags, tag: usize, terminal: u8, from: u64, end: u64) -> bool
@@ -52,4 +59,21 @@ pub fn passes_end(present: Tags, tag: usize, terminal: u8, from: u64, n: u64) ->
         return true;
     }
     TERMINALS - place <= n
+}
+
+// What refuses a blind that is named, from what stands at its place: an argument is outside its range, the blind is not
+// there, or it is busy.
+pub fn judge_named(out: bool, present: Tags, tag: u64, blind: Blind) -> u8
+    ensures { λ r. ⌜ r ≡ refusal (outside out ∷ (not (tagsOf present tag), 2) ∷ (busy blind, 3) ∷ []) ⌝ }
+{
+    if out {
+        return OUT_OF_RANGE;
+    }
+    if !present.has(tag) {
+        return NO_BLIND;
+    }
+    if outputs::is_busy(blind) {
+        return BUSY;
+    }
+    DONE
 }

@@ -4,15 +4,15 @@ use crate::bus_turns::position_at;
 use crate::panels::FULL_RUN;
 use crate::panels::asked;
 use crate::tally::Tally;
-use edits::blinds::install;
-use edits::blinds::remove_blind;
-use edits::blinds::write_params;
+use installs::install;
 use panel::Panel;
 use readings::inventory::inventory;
+use removals::remove_blind;
 use splices::splice_in;
 use splices::splice_out;
 use wiring::add_link;
 use wiring::remove_link;
+use writes::write_params;
 
 // How many terminals come and go.
 const SPLICED: u64 = 1;

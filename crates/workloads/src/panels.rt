@@ -1,6 +1,6 @@
 // The panels that the workloads start from, built by the panel's own calls: so many blinds, at rest or all of them
 // running, and so many links, of which some share one address in the middle of the table.
-use edits::blinds::install;
+use installs::install;
 use panel::Panel;
 use params::Asked;
 use std::num::wrapping_add_u64;

@@ -1,0 +1,67 @@
+-- What is so of install where no check refuses. Assumes nothing.
+use Prim.Native.Nat.{ℕ, _+_, _≤_, _<_}
+use mathlib.Core.Path.{_≡_, ap, ap₂, _∙_}
+use mathlib.Core.Bool.{Bool, true, false, not, _||_}
+use mathlib.Core.List.{List, [], _∷_}
+use lib.Dec.{leb}
+use borrow.Author.Tests.{le-leb, lt-leb, leb-false, not-false}
+use Rattle.laws.proofs.Any.{either-left, either-right, neither-left, neither-right}
+use Rattle.answers.specs.Answers.{refusal}
+use Rattle.answers.proofs.Refusals.{all-passed}
+use Rattle.params.specs.Numbers.{allowed}
+use Rattle.tags.specs.Tags.{places}
+use Rattle.panel.specs.Panel.{Model, presentIn}
+use Rattle.terminals.specs.Strip.{terminals}
+use Rattle.panel.specs.Sound.{isSound}
+use Rattle.panel.specs.Calls.{Cells}
+use Rattle.panel.proofs.Checks.{Passed, passed}
+use Rattle.seats.specs.Seats.{inUse}
+use Rattle.installs.specs.Installs.{installRule}
+
+module _ (tag terminal : ℕ) (a : List ℕ) where
+  -- an argument is outside its range
+  abbrev pub beyond : Bool
+  beyond = leb places tag || (leb terminals terminal || not (allowed a))
+
+  pub record Inside : Type 0 where
+    pub tag-low : tag < places
+    pub terminal-low : terminal < terminals
+    pub fair : allowed a ≡ true
+
+  -- the tag is, the terminal, or a number of the set
+  pub beyond-tag : places ≤ tag → beyond ≡ true
+  beyond-tag h = either-left (leb places tag) _ (le-leb places tag h)
+
+  pub beyond-terminal : terminals ≤ terminal → beyond ≡ true
+  beyond-terminal h = either-right (leb places tag) _ (either-left (leb terminals terminal) _ (le-leb terminals terminal h))
+
+  pub beyond-asked : not (allowed a) ≡ true → beyond ≡ true
+  beyond-asked e = either-right (leb places tag) _ (either-right (leb terminals terminal) (not (allowed a)) e)
+
+  -- none of them
+  pub within : tag < places → terminal < terminals → not (allowed a) ≡ false → beyond ≡ false
+  within h k e = ap₂ (λ (t s : Bool). t || (s || not (allowed a))) (lt-leb places tag h) (lt-leb terminals terminal k) ∙ e
+
+  pub inside : beyond ≡ false → Inside
+  inside e =
+      let rest : leb terminals terminal || not (allowed a) ≡ false = neither-right (leb places tag) _ e in
+      record {
+        tag-low = leb-false places tag (neither-left (leb places tag) _ e);
+        terminal-low = leb-false terminals terminal (neither-left (leb terminals terminal) _ rest);
+        fair = not-false (allowed a) (neither-right (leb terminals terminal) _ rest);
+      }
+
+  module _ (m : Model) (cells : Cells) where
+    pub record Installable : Type 0 where
+      pub sound : isSound m ≡ true
+      pub within : Inside
+      pub new : presentIn m tag ≡ false
+      pub free : inUse terminal (terminal + 1) m ≡ false
+
+    pub installable : refusal (installRule tag terminal a .checks m cells) ≡ 0 → Installable
+    unfolding installRule
+    installable e =
+        let all : Passed m beyond ((presentIn m tag, 4) ∷ (inUse terminal (terminal + 1) m, 10) ∷ []) = passed m _ _ e in
+        let x = all-passed (presentIn m tag) 3 ((inUse terminal (terminal + 1) m, 10) ∷ []) (all .own-passed) in
+        let y = all-passed (inUse terminal (terminal + 1) m) 9 [] (x .1) in
+        record { sound = all .sound; within = inside (all .within); new = x .0; free = y .0 }

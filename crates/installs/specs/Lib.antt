@@ -1,0 +1,2 @@
+pub mod Installs
+pub mod Cases
