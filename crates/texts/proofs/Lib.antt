@@ -1,4 +1,5 @@
 pub mod Sheet
 pub mod NextWord
+pub mod WordByWord
 pub mod NextLine
 pub mod MovedRow
