@@ -1,5 +1,4 @@
 pub mod Counting
 pub mod LineEnd
-pub mod WordByWord
-pub mod Collected
+pub mod Judged
 pub mod Meanings

@@ -1,26 +1,36 @@
 -- What a line means, from where its first word starts and ends: no word, a comment, or a command with its arguments.
 -- Assumes nothing.
-use Prim.Native.Nat.{ℕ, _+_, _≤_, _<_}
+use Prim.Native.Nat.{ℕ, suc, _+_, _-_, _≤_, _<_}
 use native.Mathlib.Omega.{arith}
 use mathlib.Core.Path.{_≡_, refl, sym, ap, ap₂, _∙_}
 use mathlib.Core.Bool.{Bool, cond}
 use mathlib.Core.List.{List, map}
-use lib.ListN.{length, getD, drop}
+use lib.ListN.{length, getD, take, drop}
+use lib.Seq.{drop-cons}
 use lib.Dec.{eqb}
 use borrow.Author.Tests.{eq-eqb, ne-eqb}
 use Rattle.laws.specs.Every.{every}
 use Rattle.words.specs.Words.{words, blanks, letters}
 use Rattle.words.proofs.NextWord.{no-words}
+use Rattle.words.proofs.WordByWord.{part, past-blanks, same-words, word-some, one-word}
 use Rattle.decimals.specs.Decimals.{isNumber, valueOf}
+use Rattle.names.specs.declared.Entry.{Entry}
+use Rattle.names.specs.Names.{entryOf}
+use Rattle.arguments.specs.declared.Arguments.{Arguments}
+use Rattle.arguments.specs.Arguments.{nothing, heard, valueAt}
 use Rattle.commands.specs.declared.Meaning.{Meaning}
-use Rattle.commands.specs.declared.names.Entry.{Entry}
-use Rattle.commands.specs.declared.arguments.Arguments.{Arguments}
-use Rattle.commands.specs.Names.{entryOf}
-use Rattle.commands.specs.Arguments.{nothing, heard, valueAt}
-use Rattle.commands.specs.Lines.{judged, meaningOf}
-use Rattle.commands.proofs.WordByWord.{part, past-blanks, same-words, one-word, first-byte}
+use Rattle.commands.specs.Lines.{isComment, judged, meaningOf}
 use Rattle.commands.proofs.Counting.{of-table}
-use Rattle.commands.proofs.Collected.{collected}
+use Rattle.commands.proofs.Judged.{collected}
+
+-- the first byte of a word tells whether it makes a comment of its line
+first-byte : (line : List ℕ) (at end : ℕ) → at < length line → blanks (drop at line) ≡ 0 → end ≡ at + letters (drop at line)
+    → isComment (part at end line) ≡ eqb (getD line at 0) 35
+first-byte line at end within begins e =
+    ap isComment (ap (λ (k : ℕ). take k (drop at line)) longer ∙ ap (take (suc (end - at - 1))) (drop-cons line at 0 within))
+  where
+    longer : end - at ≡ suc (end - at - 1)
+    longer = omega (arith, word-some line at end within begins e)
 
 -- what the first word and the others mean, where the first may begin a comment
 abbrev chosen : Bool → List ℕ → List (List ℕ) → Meaning

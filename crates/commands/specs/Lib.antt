@@ -1,3 +1,1 @@
-pub mod Names
 pub mod Lines
-pub mod Arguments

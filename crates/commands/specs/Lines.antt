@@ -6,19 +6,19 @@ use mathlib.Core.List.{List, [], _∷_, map}
 use lib.ListN.{length, getD}
 use lib.Dec.{eqb, ltb, leb}
 use Rattle.laws.specs.Every.{every}
-use Rattle.params.specs.Parameters.{defaults}
-use Rattle.params.specs.declared.Asked.{Asked}
 use Rattle.laws.specs.Fills.{tabulate}
+use Rattle.params.specs.declared.Asked.{Asked}
+use Rattle.params.specs.Parameters.{defaults}
 use Rattle.params.specs.Numbers.{setSize, numbersOf, askedOf}
 use Rattle.words.specs.Words.{words}
 use Rattle.decimals.specs.Decimals.{isNumber, valueOf}
+use Rattle.names.specs.declared.Name.{Name}
+use Rattle.names.specs.declared.Entry.{Entry}
+use Rattle.names.specs.Names.{entryOf, takes}
 use Rattle.commands.specs.declared.Command.{Command}
 use Rattle.commands.specs.declared.Edit.{Edit}
 use Rattle.commands.specs.declared.Fault.{Fault}
 use Rattle.commands.specs.declared.Meaning.{Meaning}
-use Rattle.commands.specs.declared.names.Name.{Name}
-use Rattle.commands.specs.declared.names.Entry.{Entry}
-use Rattle.commands.specs.Names.{entryOf, takes}
 
 -- "A line of more than 256 bytes is too long."
 abbrev pub longest : ℕ
@@ -40,25 +40,21 @@ unfoldable pub setAfter : ℕ → ℕ → (ℕ → ℕ) → Asked
 setAfter first count value =
     askedOf (cond (leb count first) (numbersOf defaults) (tabulate setSize (λ k. value (first + k))))
 
-abbrev pub editing : Edit → Meaning
-editing edit = Meaning.Call (Command.Edit edit)
-
 -- The call that a command makes of its arguments: how many there are, and the value of each by its place.
-unfoldable pub called : Name → ℕ → (ℕ → ℕ) → Meaning
-called Name.Unknown count value = Meaning.Wrong Fault.UnknownCommand
-called Name.New count value = Meaning.Call Command.New
-called Name.Show count value = Meaning.Call Command.Show
-called Name.Strip count value = Meaning.Call Command.Strip
-called Name.Inv count value = Meaning.Call Command.Inv
-called Name.Install count value = editing (Edit.Install (value 0) (value 1) (setAfter 2 count value))
-called Name.Remove count value = editing (Edit.Remove (value 0))
-called Name.Params count value = editing (Edit.Params (value 0) (setAfter 1 count value))
-called Name.Link count value = editing (Edit.Link (value 0) (value 1) (value 2))
-called Name.Unlink count value = editing (Edit.Unlink (value 0) (value 1) (value 2))
-called Name.In count value = editing (Edit.In (value 0) (value 1))
-called Name.Out count value = editing (Edit.Out (value 0) (value 1))
-called Name.Tel count value = Meaning.Call (Command.Tel (value 0) (value 1))
-called Name.Time count value = Meaning.Call (Command.Time (value 0))
+unfoldable pub called : Name → ℕ → (ℕ → ℕ) → Command
+called Name.New count value = Command.New
+called Name.Show count value = Command.Show
+called Name.Strip count value = Command.Strip
+called Name.Inv count value = Command.Inv
+called Name.Install count value = Command.Edit (Edit.Install (value 0) (value 1) (setAfter 2 count value))
+called Name.Remove count value = Command.Edit (Edit.Remove (value 0))
+called Name.Params count value = Command.Edit (Edit.Params (value 0) (setAfter 1 count value))
+called Name.Link count value = Command.Edit (Edit.Link (value 0) (value 1) (value 2))
+called Name.Unlink count value = Command.Edit (Edit.Unlink (value 0) (value 1) (value 2))
+called Name.In count value = Command.Edit (Edit.In (value 0) (value 1))
+called Name.Out count value = Command.Edit (Edit.Out (value 0) (value 1))
+called Name.Tel count value = Command.Tel (value 0) (value 1)
+called Name.Time count value = Command.Time (value 0)
 
 -- The mistakes in their order: an unknown command, a wrong number of arguments, an argument that is no number.
 unfoldable pub judged : Entry → ℕ → Bool → (ℕ → ℕ) → Meaning
@@ -66,7 +62,7 @@ judged entry count numeric value =
     cond (not (entry .known)) (Meaning.Wrong Fault.UnknownCommand)
     (cond (not (takes entry count)) (Meaning.Wrong Fault.WrongCount)
     (cond (not numeric) (Meaning.Wrong Fault.NotANumber)
-    (called (entry .name) count value)))
+    (Meaning.Call (called (entry .name) count value))))
 
 -- "The first word is the command; all other words are arguments." A line without words and a comment are passed over in silence.
 unfoldable pub meaningOf : List (List ℕ) → Meaning

@@ -1,8 +1,6 @@
 // The command language of the bench, one command a line: a line is read as a call of the panel, as something to pass over,
 // or as a mistake. Nothing is carried out here.
-mod arguments;
 pub mod lines;
-mod names;
 
 use params::Asked;
 

@@ -3,17 +3,19 @@ use crate::Command;
 use crate::Edit;
 use crate::Fault;
 use crate::Meaning;
-use crate::arguments::Arguments;
-use crate::names::Entry;
-use crate::names::Name;
+use arguments::Arguments;
+use names::Entry;
+use names::Name;
+use params::Asked;
+use params::SET;
 use words::word_end;
 use words::word_start;
 ghost use Prim.Native.Nat.{_≤_};
 ghost use mathlib.Core.Path.{_≡_};
 ghost use lib.ListN.{take, length};
-ghost use Rattle.commands.specs.Lines.{withoutReturn, meaningOf, judged, called, lineMeans};
-ghost use Rattle.commands.specs.Arguments.{valueAt};
 ghost use Rattle.words.specs.Words.{words};
+ghost use Rattle.arguments.specs.Arguments.{valueAt};
+ghost use Rattle.commands.specs.Lines.{withoutReturn, setAfter, meaningOf, judged, called, lineMeans};
 
 // The longest line that is read; a carriage return counts, the line feed does not.
 pub const LONGEST: usize = 256;
@@ -77,30 +79,45 @@ fn judge(entry: Entry, arguments: Arguments) -> Meaning
         return Meaning::Wrong(Fault::NotANumber);
     }
     let name = entry.name;
-    call(name, arguments)
+    Meaning::Call(call(name, arguments))
 }
 
 // The call that a name and its arguments make.
-fn call(name: Name, given: Arguments) -> Meaning
+fn call(name: Name, given: Arguments) -> Command
     ensures { λ r. ⌜ r ≡ called name (given .count) (valueAt given) ⌝ }
 {
-    let a = given.values[0];
-    let b = given.values[1];
-    let c = given.values[2];
+    let values = given.values;
+    let a = values[0];
+    let b = values[1];
+    let c = values[2];
     match name {
-        Name::Unknown => Meaning::Wrong(Fault::UnknownCommand),
-        Name::New => Meaning::Call(Command::New),
-        Name::Show => Meaning::Call(Command::Show),
-        Name::Strip => Meaning::Call(Command::Strip),
-        Name::Inv => Meaning::Call(Command::Inv),
-        Name::Install => Meaning::Call(Command::Edit(Edit::Install(a, b, given.set_after(2)))),
-        Name::Remove => Meaning::Call(Command::Edit(Edit::Remove(a))),
-        Name::Params => Meaning::Call(Command::Edit(Edit::Params(a, given.set_after(1)))),
-        Name::Link => Meaning::Call(Command::Edit(Edit::Link(a, b, c))),
-        Name::Unlink => Meaning::Call(Command::Edit(Edit::Unlink(a, b, c))),
-        Name::In => Meaning::Call(Command::Edit(Edit::In(a, b))),
-        Name::Out => Meaning::Call(Command::Edit(Edit::Out(a, b))),
-        Name::Tel => Meaning::Call(Command::Tel(a, b)),
-        Name::Time => Meaning::Call(Command::Time(a)),
+        Name::New => Command::New,
+        Name::Show => Command::Show,
+        Name::Strip => Command::Strip,
+        Name::Inv => Command::Inv,
+        Name::Install => Command::Edit(Edit::Install(a, b, set_after(given, 2))),
+        Name::Remove => Command::Edit(Edit::Remove(a)),
+        Name::Params => Command::Edit(Edit::Params(a, set_after(given, 1))),
+        Name::Link => Command::Edit(Edit::Link(a, b, c)),
+        Name::Unlink => Command::Edit(Edit::Unlink(a, b, c)),
+        Name::In => Command::Edit(Edit::In(a, b)),
+        Name::Out => Command::Edit(Edit::Out(a, b)),
+        Name::Tel => Command::Tel(a, b),
+        Name::Time => Command::Time(a),
     }
+}
+
+// The set of parameters after the first arguments; where there is none, the default set.
+fn set_after(given: Arguments, first: usize) -> Asked
+    requires { ⌜ first ≤ 2 ⌝ }
+    ensures { λ r. ⌜ r ≡ setAfter first (given .count) (valueAt given) ⌝ }
+{
+    if given.count <= first {
+        return Asked::default_set();
+    }
+    let mut row = [0; SET];
+    for k in 0..SET {
+        row[k] = given.values[first + k];
+    }
+    Asked::of(row)
 }

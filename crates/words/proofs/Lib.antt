@@ -1,1 +1,2 @@
 pub mod NextWord
+pub mod WordByWord

@@ -1,7 +1,7 @@
 -- No word, a comment, or a command.
 -- Assumes nothing.
 use borrow.Author.Needs.{needs}
-use Rattle.commands.proofs.WordByWord.{past-blanks, word-within}
+use Rattle.words.proofs.WordByWord.{past-blanks, word-within}
 use Rattle.commands.proofs.Meanings.{nothing-meant, comment-meant, command-meant}
 use Rattle.commands.proofs.lines.read_words.Statement.{statement}
 use Rattle.commands.proofs.lines.read_words.Tie as tie
