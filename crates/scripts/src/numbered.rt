@@ -148,12 +148,13 @@ link 106 5 6 = 0 0
 link 107 5 7 = 0 0
 ";
 
-// Runs all cases. The blind of the cases is installed by this line, so that a wrong build can be tried too.
-pub fn write(install: &[u8]) {
+// Runs all cases. The blind of the cases is installed by this line, so that a wrong build can be tried too. Where a line
+// of the cases cannot be written, that is said in these words.
+pub fn write(install: &[u8], failure: &[u8]) {
     let mut row = io::large_buffer();
     let mut sheet = io::large_buffer();
     if !run_all(install, &mut row, &mut sheet) {
-        io::write_all(STDERR_FILENO, b"cases: a line could not be written\n");
+        io::write_all(STDERR_FILENO, failure);
     }
 }
 
