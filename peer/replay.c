@@ -7,6 +7,7 @@
 #include "commands.h"
 
 #include <errno.h>
+#include <stdio.h>
 #include <stdlib.h>
 #include <string.h>
 #include <unistd.h>
@@ -18,17 +19,42 @@ static uint64_t line_number;
 static char line[LINE_BYTES];
 static size_t line_length;
 
+/* So many bytes a pipe takes whole or not at all. */
+enum { PIECE = 4096 };
+
 static char input[65536];
 static char output[65536];
 static size_t output_length;
+
+static void give_up(const char *why)
+{
+    fprintf(stderr, "replay: %s\n", why);
+    exit(1);
+}
+
+/* A full disk may have taken half a line: the file is cut off where the
+   answers began, unless something stands behind them. */
+static void take_back(size_t taken)
+{
+    off_t here = lseek(STDOUT_FILENO, 0, SEEK_CUR);
+    if (lseek(STDOUT_FILENO, 0, SEEK_END) != here) {
+        lseek(STDOUT_FILENO, here, SEEK_SET);
+        return;
+    }
+    off_t start = lseek(STDOUT_FILENO, -(off_t)taken, SEEK_CUR);
+    if (ftruncate(STDOUT_FILENO, start) < 0)
+        return; /* what is no file keeps what it took */
+}
 
 static void write_out(void)
 {
     size_t written = 0;
     while (written < output_length) {
         ssize_t n = write(STDOUT_FILENO, output + written, output_length - written);
-        if (n < 0 && errno != EINTR)
-            exit(1);
+        if (n < 0 && errno != EINTR) {
+            take_back(written);
+            give_up("the answers could not be written");
+        }
         if (n > 0)
             written += (size_t)n;
     }
@@ -40,7 +66,7 @@ static void end_of_line(void)
     static struct text answer;
     line_number += 1;
     carry_out_line(&panel, line, line_length, line_number, &answer);
-    if (sizeof output - output_length < answer.length)
+    if (output_length + answer.length > PIECE)
         write_out();
     memcpy(output + output_length, answer.bytes, answer.length);
     output_length += answer.length;
@@ -65,7 +91,7 @@ int main(void)
         if (n < 0 && errno == EINTR)
             continue;
         if (n < 0)
-            exit(1);
+            give_up("the input could not be read");
         if (n == 0)
             break;
         for (ssize_t i = 0; i < n; i++)

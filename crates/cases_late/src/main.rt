@@ -2,5 +2,8 @@
 // a wind alarm that lowers, and a frost alarm that is not ignored. W7, R1 and R2 say nothing that hangs on a parameter, so
 // they are the same here too.
 fn main() {
-    numbered::write(b"install 5 9 60000 200 501 2 1 1 = 0 0\n");
+    numbered::write(
+        b"install 5 9 60000 200 501 2 1 1 = 0 0\n",
+        b"cases_late: a line could not be written\n",
+    );
 }

@@ -4,6 +4,7 @@ mod limits;
 
 use crate::limits::LIMITS;
 use crate::limits::full_table;
+use libc::STDERR_FILENO;
 use libc::STDOUT_FILENO;
 use rows::least;
 use rows::line_end;
@@ -149,31 +150,46 @@ link 106 5 6 = 0 0
 link 107 5 7 = 0 0
 ";
 
-// Runs all cases. The blind of the cases is installed by this line, so that a wrong build can be tried too.
-pub fn write(install: &[u8]) {
+// Runs all cases. The blind of the cases is installed by this line, so that a wrong build can be tried too. Where a line
+// of the cases cannot be written, that is said in these words.
+pub fn write(install: &[u8], failure: &[u8]) {
     let mut row = io::large_buffer();
     let mut sheet = io::large_buffer();
-    run(&WORKED, install, &mut row, &mut sheet);
-    full_table(install, &mut row, &mut sheet);
-    run(&LIMITS, install, &mut row, &mut sheet);
-}
-
-// The cases of a text one after the other.
-fn run(cases: &[u8], install: &[u8], row: &mut [u8], sheet: &mut [u8]) {
-    let mut start = 0;
-    while start < cases.len() {
-        let end = place_of(MARK, cases, start + 1);
-        case(&cases[start + 1..end], install, row, sheet);
-        start = end;
+    if !run_all(install, &mut row, &mut sheet) {
+        io::write_all(STDERR_FILENO, failure);
     }
 }
 
+// Hands back whether the lines went through; the first that does not is the last.
+fn run_all(install: &[u8], row: &mut [u8], sheet: &mut [u8]) -> bool {
+    if !run(&WORKED, install, row, sheet) {
+        return false;
+    }
+    if !full_table(install, row, sheet) {
+        return false;
+    }
+    run(&LIMITS, install, row, sheet)
+}
+
+// The cases of a text one after the other.
+fn run(cases: &[u8], install: &[u8], row: &mut [u8], sheet: &mut [u8]) -> bool {
+    let mut start = 0;
+    while start < cases.len() {
+        let end = place_of(MARK, cases, start + 1);
+        if !case(&cases[start + 1..end], install, row, sheet) {
+            return false;
+        }
+        start = end;
+    }
+    true
+}
+
 // A case: what it starts from and its own script are written into the row, and then carried out.
-fn case(text: &[u8], install: &[u8], row: &mut [u8], sheet: &mut [u8]) {
+fn case(text: &[u8], install: &[u8], row: &mut [u8], sheet: &mut [u8]) -> bool {
     let named = line_end(text, 0);
     let fresh = put_fresh(row, install);
     let end = put_text(row, fresh, &text[named..]);
-    judge(&text[..named], row, end, sheet);
+    judge(&text[..named], row, end, sheet)
 }
 
 // The blind as it is installed, with its links.
@@ -183,13 +199,15 @@ pub(crate) fn put_fresh(row: &mut [u8], install: &[u8]) -> usize {
 }
 
 // The line of a case, whose script ends here in the row.
-pub(crate) fn judge(name: &[u8], row: &[u8], end: usize, sheet: &mut [u8]) {
+pub(crate) fn judge(name: &[u8], row: &[u8], end: usize, sheet: &mut [u8]) -> bool {
     let length = least(end, row.len());
     let same = holds(&row[..length], sheet);
-    io::write_all(STDOUT_FILENO, name);
+    if !io::write_all(STDOUT_FILENO, name) {
+        return false;
+    }
     if same {
-        io::write_all(STDOUT_FILENO, b"\tsame\n");
+        io::write_all(STDOUT_FILENO, b"\tsame\n")
     } else {
-        io::write_all(STDOUT_FILENO, b"\tdiffers\n");
+        io::write_all(STDOUT_FILENO, b"\tdiffers\n")
     }
 }

@@ -36,11 +36,11 @@ link 1513 5 4 = 0 0
 link 1514 5 4 = 7 0
 ";
 
-pub(crate) fn full_table(install: &[u8], row: &mut [u8], sheet: &mut [u8]) {
+pub(crate) fn full_table(install: &[u8], row: &mut [u8], sheet: &mut [u8]) -> bool {
     let fresh = put_fresh(row, install);
     let nearly = put_links(row, fresh);
     let end = put_text(row, nearly, &FULL_TABLE);
-    judge(b"R1", row, end, sheet);
+    judge(b"R1", row, end, sheet)
 }
 
 // The script of links 9 to 511; eight are there already.

@@ -1,7 +1,10 @@
 // A panel on the bench: commands from standard input, one a line, each carried out on one panel that starts empty and
 // answered on standard output by one line. The work is in the crate replies; here bytes are only fetched and handed on.
+mod output;
+
+use libc::STDERR_FILENO;
 use libc::STDIN_FILENO;
-use libc::STDOUT_FILENO;
+use output::send;
 use panel::Panel;
 use replies::lines::answer_line;
 use rows::least;
@@ -13,8 +16,9 @@ ghost use lib.ListN.{length};
 // An unfinished line is kept up to the first byte that makes it too long: what follows cannot mend it.
 const MOST_KEPT: usize = 257;
 
-// When so much is written the sheet is sent off: the longest answer, of 64 blinds and 512 links, still fits after it.
-const FULL: usize = 32_768;
+// When so much is written the sheet is sent off: a pipe takes less than this whole or not at all, and the longest answer,
+// of 64 blinds and 512 links, still fits after it.
+const FULL: usize = 4_096;
 
 struct Bench {
     panel: Panel,
@@ -25,6 +29,12 @@ struct Bench {
     // How many bytes of an unfinished line stand at the front of the input.
     kept: usize,
     is_open: bool,
+}
+
+// What a read gave: how many bytes there are then, 0 where none came. A read that failed is not the end of the input.
+struct Heard {
+    have: usize,
+    failed: bool,
 }
 
 fn main() {
@@ -55,34 +65,47 @@ fn serve(input: &mut [u8], out: &mut [u8]) {
 
 // Whoever reads the answers waits for them, so the sheet is sent off before more input is asked for.
 fn hear(bench: Bench, input: &mut [u8], out: &mut [u8]) -> Bench {
-    let have = fetch(input, bench.kept);
+    let heard = fetch(input, bench.kept);
+    let have = heard.have;
+    if heard.failed {
+        io::write_all(STDERR_FILENO, b"replay: the input could not be read\n");
+        return Bench {
+            is_open: false,
+            ..bench
+        };
+    }
     if have == 0 {
         return finish(bench, input, out);
     }
     let next = answer_lines(bench, &input[..have], out);
     let start = next.kept;
     let kept = move_to_front(input, start, left(start, have));
-    send(out, next.at);
-    Bench {
-        kept,
-        at: 0,
-        ..next
-    }
+    let sent = sent_off(next, out);
+    Bench { kept, ..sent }
 }
 
-// Reads after the bytes that are kept, and hands back how many there are then; 0 where nothing came.
-fn fetch(input: &mut [u8], kept: usize) -> usize
-    ensures { λ r. ⌜ r ≤ length (now (input .exit)) ⌝ }
+// Reads after the bytes that are kept.
+fn fetch(input: &mut [u8], kept: usize) -> Heard
+    ensures { λ r. ⌜ r .«have» ≤ length (now (input .exit)) ⌝ }
 {
     if input.len() <= kept {
-        return 0;
+        return Heard {
+            have: 0,
+            failed: false,
+        };
     }
     let got = libc::read(STDIN_FILENO, &mut input[kept..]);
     let more = io::count(got, &input[kept..]);
     if more == 0 {
-        return 0;
+        return Heard {
+            have: 0,
+            failed: got < 0,
+        };
     }
-    kept + more
+    Heard {
+        have: kept + more,
+        failed: false,
+    }
 }
 
 // How many bytes of an unfinished line are kept.
@@ -109,9 +132,15 @@ fn answer_lines(bench: Bench, input: &[u8], out: &mut [u8]) -> Bench {
     }
 }
 
+// Nothing is carried out any more where an answer did not go through. The answer that fills the sheet goes off after
+// those before it, so that only a long line makes a large write.
 fn answer(bench: Bench, line: &[u8], out: &mut [u8]) -> Bench {
+    if !bench.is_open {
+        return bench;
+    }
     let number = one_more(bench.lines);
-    let done = answer_line(bench.panel, number, line, out, bench.at);
+    let before = bench.at;
+    let done = answer_line(bench.panel, number, line, out, before);
     let panel = done.panel;
     let at = done.at;
     let next = Bench {
@@ -123,8 +152,12 @@ fn answer(bench: Bench, line: &[u8], out: &mut [u8]) -> Bench {
     if at < FULL {
         return next;
     }
-    send(out, at);
-    Bench { at: 0, ..next }
+    let is_open = send(out, 0, before) && send(out, before, at);
+    Bench {
+        at: 0,
+        is_open,
+        ..next
+    }
 }
 
 fn one_more(lines: u64) -> u64 {
@@ -135,15 +168,19 @@ fn one_more(lines: u64) -> u64 {
 fn finish(bench: Bench, input: &[u8], out: &mut [u8]) -> Bench {
     let kept = least(bench.kept, input.len());
     let last = answer(bench, &input[..kept], out);
-    send(out, last.at);
+    let sent = sent_off(last, out);
     Bench {
         is_open: false,
-        ..last
+        ..sent
     }
 }
 
-// Writes the answers out.
-fn send(out: &[u8], at: usize) {
-    let end = least(at, out.len());
-    io::write_all(STDOUT_FILENO, &out[..end]);
+// What is on the sheet goes off, unless the output takes no more.
+fn sent_off(bench: Bench, out: &[u8]) -> Bench {
+    let is_open = bench.is_open && send(out, 0, bench.at);
+    Bench {
+        at: 0,
+        is_open,
+        ..bench
+    }
 }

@@ -21,14 +21,24 @@ within c = place-within 64 (c .before .before .before .before .before .before .b
 
 loop-less : tie.Need-loop-less Inv-loop μ-loop
 loop-less c =
-    let ended = c .before .before .before .before .before .before .before .before in
+    let ended = c .before .before .before .before .before .before .before .before .before in
     omega (arith, within ended, ended .place-of .ensures)
 
 loop-again : tie.Need-loop-again Inv-loop μ-loop
 loop-again c =
-    let done = c .before .before .before .before in
+    let done = c .before .before .before .before .before in
     let at = done .before .before .before .before .before .before in
     (done .case .kept .1 .1 .0 ∙ at .loop .inv .0, done .case .kept .1 .1 .1 .0 ∙ at .loop .inv .1)
+
+same-row : tie.Need-same-length Inv-loop μ-loop
+same-row c =
+    let done = c .before .before .before .before .before in
+    done .case .kept .1 .1 .0 ∙ done .before .before .before .before .before .before .loop .inv .0
+
+same-sheet : tie.Need-same-length-2 Inv-loop μ-loop
+same-sheet c =
+    let done = c .before .before .before .before .before in
+    done .case .kept .1 .1 .1 .0 ∙ done .before .before .before .before .before .before .loop .inv .1
 
 pub run-spec : {M : Type 1} → statement M
 run-spec =
@@ -44,6 +54,9 @@ run-spec =
     (λ c. omega (arith, c .place-of .ensures, within c))
     (λ c. omega (arith, within c))
     (λ c κs. search needs)
+    same-row
+    same-sheet
+    (λ c. search needs)
     loop-less
     loop-again
     (λ c. c .before .loop .inv .0)

@@ -8,13 +8,14 @@ use Rattle.replay.proofs.hear.Tie as tie
 
 answered : tie.Need-slice-aggregate-answer-lines
 answered c =
-    let read = c .before .before .before .before in
-    sym (length-take-le (read .fetch .result) (read .fetch .last .0) (read .fetch .ensures))
+    let read = c .before .before .before .before .before in
+    sym (length-take-le (read .fetch .result .have) (read .fetch .last .0) (read .fetch .ensures))
 
 pub hear-spec : {M : Type 1} → statement M
 hear-spec =
     tie.close
     (tie.spec
-    (λ c κs. search needs) (λ c κs. search needs) (λ c. search needs) (λ c. search needs) (λ c. search needs) (λ c. search needs)
+    (λ c κs. search needs) (λ c. search needs) (λ c κs. search needs) (λ c. search needs) (λ c. search needs) (λ c κs. search needs)
+    (λ c. search needs) (λ c. search needs) (λ c. search needs) (λ c. search needs)
     answered
     (λ c κs. search needs) (λ c κs. search needs) (λ c κs. search needs) (λ c κs. search needs) (λ c. search needs) (λ c. search needs) (λ c. search needs))
