@@ -3,7 +3,7 @@
 use libc::STDIN_FILENO;
 use libc::STDOUT_FILENO;
 use panel::Panel;
-use replies::lines::answer_line;
+use replies::answer_line;
 use texts::lines::least;
 use texts::lines::line_end;
 use texts::lines::move_to_front;

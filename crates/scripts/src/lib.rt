@@ -4,7 +4,7 @@ mod limits;
 pub mod numbered;
 
 use panel::Panel;
-use replies::lines::answer_line;
+use replies::answer_line;
 use texts::lines::least;
 use texts::lines::line_end;
 use texts::lines::place_of;
