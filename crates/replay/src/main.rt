@@ -6,7 +6,7 @@ use libc::STDERR_FILENO;
 use libc::STDIN_FILENO;
 use output::send;
 use panel::Panel;
-use replies::lines::answer_line;
+use replies::answer_line;
 use rows::least;
 use rows::line_end;
 use rows::move_to_front;

@@ -1,92 +1,13 @@
--- Answer lines: what each command does to the panel and writes, and what each line does.
+-- Answer lines: what each line does to the panel and writes.
 -- Assumes nothing.
 use Prim.Native.Nat.{ℕ}
 use mathlib.Core.List.{List, [], _∷_}
-use lib.ListN.{replicate}
-use Rattle.answers.specs.Rules.{Result, carried}
-use Rattle.tags.specs.Tags.{places}
-use Rattle.params.specs.Numbers.{rowOf}
-use Rattle.outputs.specs.Reports.{noReport}
-use Rattle.link.specs.Link.{linkOf}
-use Rattle.panel.specs.Panel.{Model, modelOf, bare}
-use Rattle.terminals.specs.Strip.{terminals}
-use Rattle.panel.specs.Calls.{Cells, row, noCells, CallRule}
-use Rattle.telegrams.specs.Telegrams.{telegramRule}
-use Rattle.time_steps.specs.TimeSteps.{stepRule}
-use Rattle.readings.specs.Strip.{stripRule}
-use Rattle.readings.specs.Inventory.{inventoryRule}
-use Rattle.installs.specs.Installs.{installRule}
-use Rattle.removals.specs.Removals.{removeRule}
-use Rattle.writes.specs.Writes.{writeRule}
-use Rattle.wiring.specs.Wiring.{addRule, removeLinkRule}
-use Rattle.splices.specs.Splices.{spliceInRule, spliceOutRule}
-use Rattle.texts.specs.Text.{text}
-use Rattle.texts.specs.Sheet.{Sheet, sheet, puts, joined}
-use Rattle.decimals.specs.Decimals.{decimal}
-use Rattle.commands.specs.declared.Command.{Command}
-use Rattle.commands.specs.declared.Edit.{Edit}
-use Rattle.commands.specs.declared.Fault.{Fault}
+use Rattle.panel.specs.Panel.{Model}
+use Rattle.texts.specs.Sheet.{Sheet}
 use Rattle.commands.specs.declared.Meaning.{Meaning}
 use Rattle.commands.specs.Lines.{lineMeans}
-use Rattle.replies.specs.declared.After.{After}
-use Rattle.shows.specs.Numbers.{spaced, counted}
-use Rattle.shows.specs.Cells.{countedWith}
-use Rattle.panel_text.specs.PanelText.{panelText}
-
--- A panel, and the sheet that the answers are written on.
-pub record Desk : Type 0 where
-  pub panel : Model
-  pub page : Sheet
-
--- What a result says: the panel, and the sheet as far as it is written.
-abbrev pub deskOf : After → List ℕ → Desk
-deskOf r bytes = record { panel = modelOf (r .panel); page = sheet bytes (r .at) }
-
--- The panel is another one, and a text more is written.
-abbrev pub wrote : Model → List ℕ → Sheet → Desk
-wrote m line page = record { panel = m; page = puts line page }
-
--- "NUMBER COUNT" for an edit.
-abbrev pub edited : Result Model Cells → Sheet → Desk
-edited r = wrote (r .leaves) (counted (r .answer) (r .count))
-
--- "NUMBER COUNT" and the cells for a call that was lent some.
-abbrev pub celled : ℕ → Result Model Cells → Sheet → Desk
-celled idle r = wrote (r .leaves) (countedWith idle (r .answer) (r .count) (r .cells .lent))
-
--- "NUMBER BLINDS LOWEST" for the inventory.
-abbrev pub inventoried : Result Model Cells → Sheet → Desk
-inventoried r = wrote (r .leaves) (joined (decimal (r .answer) ∷ spaced (r .count) ∷ spaced (r .second) ∷ []))
-
--- The rule of an edit.
-abbrev pub editRule : Edit → CallRule
-editRule (Edit.Install tag terminal set) = installRule tag terminal (rowOf set)
-editRule (Edit.Remove tag) = removeRule tag
-editRule (Edit.Params tag set) = writeRule tag (rowOf set)
-editRule (Edit.Link address tag kind) = addRule (linkOf address tag kind)
-editRule (Edit.Unlink address tag kind) = removeLinkRule (linkOf address tag kind)
-editRule (Edit.In t n) = spliceInRule t n
-editRule (Edit.Out t n) = spliceOutRule t n
-
--- What a command does to a panel and writes.
-unfoldable pub carriedOut : Command → Model → Sheet → Desk
-carriedOut Command.New m = wrote bare (text "0")
-carriedOut Command.Show m = wrote m (panelText m)
-carriedOut Command.Strip m = celled 0 (carried stripRule m (row (replicate terminals 0)))
-carriedOut Command.Inv m = inventoried (carried inventoryRule m noCells)
-carriedOut (Command.Edit edit) m = edited (carried (editRule edit) m noCells)
-carriedOut (Command.Tel address value) m = celled noReport (carried (telegramRule address value) m (row (replicate places noReport)))
-carriedOut (Command.Time dt) m = celled noReport (carried (stepRule dt) m (row (replicate places noReport)))
-
--- "One line `error: ` and what is wrong, with the number of the input line".
-unfoldable pub faultText : Fault → List ℕ
-faultText Fault.TooLong = text "line too long"
-faultText Fault.UnknownCommand = text "unknown command"
-faultText Fault.WrongCount = text "wrong number of arguments"
-faultText Fault.NotANumber = text "not a decimal number of up to 64 bits"
-
-unfoldable pub errorText : ℕ → Fault → List ℕ
-errorText number fault = joined (text "error: line " ∷ decimal number ∷ text ": " ∷ faultText fault ∷ [])
+use Rattle.fault_text.specs.FaultText.{errorText}
+use Rattle.desk.specs.Desk.{Desk, wrote, carriedOut}
 
 -- The line feed after an answer.
 abbrev pub ended : Desk → Desk

@@ -14,7 +14,8 @@ use Rattle.texts.specs.Text.{same}
 use Rattle.texts.specs.Sheet.{sheet}
 use Rattle.rows.specs.Lines.{until, lines}
 use Rattle.rows.proofs.NextLine.{line-turn}
-use Rattle.replies.specs.Replies.{Desk, lineDone}
+use Rattle.desk.specs.Desk.{Desk}
+use Rattle.replies.specs.Replies.{lineDone}
 use Rattle.scripts.specs.Scripts.{Course, course, answerOn, heldTo, tried, followed}
 
 pub take-least : (n : ℕ) (xs : List ℕ) → take (min n (length xs)) xs ≡ take n xs

@@ -8,7 +8,8 @@ use Rattle.panel.specs.Panel.{Model, modelOf, bare}
 use Rattle.texts.specs.Text.{same}
 use Rattle.texts.specs.Sheet.{Sheet, sheet}
 use Rattle.rows.specs.Lines.{until, lines}
-use Rattle.replies.specs.Replies.{Desk, lineDone}
+use Rattle.desk.specs.Desk.{Desk}
+use Rattle.replies.specs.Replies.{lineDone}
 use Rattle.scripts.specs.declared.Trial.{Trial}
 
 -- The panel, the bytes of the sheet that answers are written on, and whether every answer so far was the expected one.

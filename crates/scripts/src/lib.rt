@@ -1,7 +1,7 @@
 // A script: commands in the language of replay, one a line, each with the answer that it should give after an equals sign,
 // as in `time 499 = 0 0`. A line without the sign, a comment or an empty one, is to be answered by nothing.
 use panel::Panel;
-use replies::lines::answer_line;
+use replies::answer_line;
 use rows::least;
 use rows::line_end;
 use rows::place_of;

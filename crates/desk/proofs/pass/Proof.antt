@@ -1,0 +1,20 @@
+-- A time step with its cells.
+-- Assumes nothing.
+use borrow.Author.Needs.{needs}
+use Rattle.outputs.specs.Reports.{noReport}
+use Rattle.desk.specs.Desk.{carriedOut}
+use Rattle.desk.proofs.Desks.{with-cells}
+use Rattle.desk.proofs.pass.Statement.{statement}
+use Rattle.desk.proofs.pass.Tie as tie
+
+returns : tie.Need-returns
+unfolding carriedOut
+returns c =
+    with-cells noReport _ (c .before .before .tell-cells .ensures) (c .before .before .before .before .before .before .time-step .ensures .outcome)
+
+pub pass-spec : {M : Type 1} → statement M
+pass-spec =
+    tie.close
+    (tie.spec
+    (λ c. search needs) (λ c κs. search needs) (λ c. search needs) (λ c κs. search needs) (λ c. search needs)
+    returns)
