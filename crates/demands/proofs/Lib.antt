@@ -12,3 +12,4 @@ pub mod Demand2
 pub mod Waiting
 pub mod Ruling
 pub mod Cases
+pub mod AfreshOnly
