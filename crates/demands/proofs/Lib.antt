@@ -13,3 +13,4 @@ pub mod Waiting
 pub mod Ruling
 pub mod Cases
 pub mod AfreshOnly
+pub mod Chain

@@ -5,3 +5,4 @@ pub mod Demand3
 pub mod Demand2
 pub mod Cases
 pub mod Afresh
+pub mod Chain
