@@ -3,11 +3,12 @@
 use Prim.Native.Nat.{ℕ, suc, _<_}
 use native.Mathlib.Omega.{arith}
 use mathlib.Core.Path.{_≡_, refl, sym, ap, _∙_, subst}
-use mathlib.Core.Bool.{true, false, not, true≢false}
+use mathlib.Core.Bool.{Bool, true, not, true≢false}
 use mathlib.Core.List.{List, [], _∷_, _++_, List·Permᴰ, List·Permᴰ·nil, List·Permᴰ·cons, List·Permᴰ·swap, List·Permᴰ·trans, Permᴰ·refl, Permᴰ·symm, Permᴰ·append-left, Permᴰ·middle, append-nil}
 use lib.ListN.{length, getD}
 use lib.Dec.{eqb}
 use borrow.Author.Tests.{eq-eqb}
+use Rattle.laws.specs.Kept.{kept}
 use Rattle.laws.proofs.Each.{Each, each-of, each-perm, each-at}
 use Rattle.laws.proofs.Kept.{kept-pass}
 use Rattle.answers.specs.Rules.{Result, carried}
@@ -49,32 +50,33 @@ same-length (List·Permᴰ·cons e p) = ap suc (same-length p)
 same-length (List·Permᴰ·swap e f) = refl
 same-length (List·Permᴰ·trans p q) = same-length p ∙ same-length q
 
-module _ (m : Model) (order : List Link) where
-  -- An add that leaves the table as it was does not meet it,
-  pub idle-add : (link : Link) → List·Permᴰ order (survivors (addLink link) (m .table .links)) → Rebuilt order m → ⊥
-  idle-add link perm built = omega (arith, same-length perm, same-length (holds-these order m built))
+-- An add that leaves the table as it was does not meet it,
+pub idle-add : (m : Model) (link : Link) (order : List Link) → List·Permᴰ order (survivors (addLink link) (m .table .links)) → Rebuilt order m → ⊥
+idle-add m link order perm built = omega (arith, same-length perm, same-length (holds-these order m built))
 
-  -- nor does a removal that leaves a link that it names,
-  pub idle-remove : (link : Link) → InTable link m → List·Permᴰ order (survivors (removeLink link) (m .table .links)) → Rebuilt order m → ⊥
-  idle-remove link there perm built =
-      let others = each-perm (List·Permᴰ·trans (Permᴰ·symm perm) (holds-these order m built)) (kept-pass (λ l. not (sameLink l link)) (m .table .links)) in
-      let kept-it : not (sameLink (getD (m .table .links) (there .place) nothing) link) ≡ true = each-at (m .table .links) nothing (there .place) (there .below) others in
-      true≢false (sym kept-it ∙ ap (λ (l : Link). not (sameLink l link)) (there .here) ∙ ap not (same-itself link))
+module _ (m n : Model) (order : List Link) (built : Rebuilt order n) where
+  -- each link of a panel that is built from links that passed a test has passed it
+  passes : (test : Link → Bool) → List·Permᴰ order (kept test (m .table .links)) → (link : Link) → InTable link n → test link ≡ true
+  passes test perm link there =
+      let all : Each (λ l. test l ≡ true) (n .table .links) =
+      each-perm (List·Permᴰ·trans (Permᴰ·symm perm) (holds-these order n built)) (kept-pass test (m .table .links)) in
+      ap test (sym (there .here)) ∙ each-at (n .table .links) nothing (there .place) (there .below) all
 
--- nor one that leaves a link of the blind,
-pub links-left : (m n : Model) (order : List Link) (link : Link) → InTable link n
-    → List·Permᴰ order (survivors (removeBlind (link .tag)) (m .table .links)) → Rebuilt order n → ⊥
-links-left m n order link there perm built =
-    let others = each-perm (List·Permᴰ·trans (Permᴰ·symm perm) (holds-these order n built)) (kept-pass (λ l. not (eqb (l .tag) (link .tag))) (m .table .links)) in
-    let kept-it : not (eqb (getD (n .table .links) (there .place) nothing .tag) (link .tag)) ≡ true = each-at (n .table .links) nothing (there .place) (there .below) others in
-    true≢false (sym kept-it ∙ ap (λ (l : Link). not (eqb (l .tag) (link .tag))) (there .here) ∙ ap not (eq-eqb (link .tag) (link .tag) refl))
+  -- nor does a removal after which the named link is there,
+  pub link-left : (link : Link) → List·Permᴰ order (survivors (removeLink link) (m .table .links)) → InTable link n → ⊥
+  link-left link perm there = true≢false (sym (passes (λ l. not (sameLink l link)) perm link there) ∙ ap not (same-itself link))
 
--- nor any call that leaves a panel without one of the links that survive it.
-pub stranger-dropped : (call : Call) (m n : Model) (order : List Link) (place : ℕ) → place < length (survivors call (m .table .links))
-    → (InTable (getD (survivors call (m .table .links)) place nothing) n → ⊥)
-    → List·Permᴰ order (survivors call (m .table .links)) → Rebuilt order n → ⊥
-stranger-dropped call m n order place below missing perm built =
-    let lost : Link = getD (survivors call (m .table .links)) place nothing in
-    let others : Each (λ l. l ≡ lost → ⊥) (n .table .links) = each-of (n .table .links) nothing (λ i h e. missing (record { place = i; below = h; here = e })) in
-    each-at (survivors call (m .table .links)) nothing place below
-    (each-perm (List·Permᴰ·trans (Permᴰ·symm (holds-these order n built)) perm) others) refl
+  -- or a link of the removed blind,
+  pub links-left : (link : Link) → List·Permᴰ order (survivors (removeBlind (link .tag)) (m .table .links)) → InTable link n → ⊥
+  links-left link perm there =
+      true≢false (sym (passes (λ l. not (eqb (l .tag) (link .tag))) perm link there) ∙ ap not (eq-eqb (link .tag) (link .tag) refl))
+
+  -- nor any call that leaves a panel without one of the links that survive it.
+  pub stranger-dropped : (call : Call) → List·Permᴰ order (survivors call (m .table .links)) → (place : ℕ)
+      → place < length (survivors call (m .table .links)) → (InTable (getD (survivors call (m .table .links)) place nothing) n → ⊥) → ⊥
+  stranger-dropped call perm place below missing =
+      let lost : Link = getD (survivors call (m .table .links)) place nothing in
+      let others : Each (λ l. l ≡ lost → ⊥) (n .table .links) =
+      each-of (n .table .links) nothing (λ i h e. missing (record { place = i; below = h; here = e })) in
+      each-at (survivors call (m .table .links)) nothing place below
+      (each-perm (List·Permᴰ·trans (Permᴰ·symm (holds-these order n built)) perm) others) refl

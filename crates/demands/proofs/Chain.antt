@@ -1,7 +1,7 @@
 -- A chain of results of the public functions is the run that the theorems speak of.
 -- Assumes nothing.
 use mathlib.Core.Path.{_≡_, refl, ap, _∙_}
-use mathlib.Core.List.{List, [], _∷_}
+use mathlib.Core.List.{List, _∷_}
 use Rattle.answers.specs.Rules.{Result}
 use Rattle.panel.specs.declared.Panel.{Panel}
 use Rattle.panel.specs.Panel.{Model, modelOf}
