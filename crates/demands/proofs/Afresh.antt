@@ -90,12 +90,17 @@ left (spliceIn t n) m cells e = Permᴰ·refl (m .table .links)
 left (spliceOut t n) m cells e = Permᴰ·refl (m .table .links)
 left inventory m cells e = Permᴰ·refl (m .table .links)
 
+-- After every call, accepted or refused, the panel is the one that its own links give afresh, since every call leaves a sound panel.
+pub rebuilt-after : (call : Call) (m : Model) (cells : Cells) → Fine m → (order : List Link)
+    → List·Permᴰ order (does call m cells .leaves .table .links) → Rebuilt order (does call m cells .leaves)
+rebuilt-after call m cells fine order perm = rebuilt (does call m cells .leaves) (kept-fine call m cells fine) order perm
+
 -- Adding the links that survive an accepted call, in any order, by the call, to the same blinds without links, each is accepted and
 -- the panel is the one that the call left.
 pub afresh : (call : Call) (m : Model) (cells : Cells) → Fine m → does call m cells .answer ≡ 0 → (order : List Link)
     → List·Permᴰ order (survivors call (m .table .links)) → Rebuilt order (does call m cells .leaves)
 afresh call m cells fine e order perm =
-    rebuilt (does call m cells .leaves) (kept-fine call m cells fine) order
+    rebuilt-after call m cells fine order
     (List·Permᴰ·trans perm
     (subst (λ (r : Result Model Cells). List·Permᴰ (survivors call (m .table .links)) (r .leaves .table .links)) (sym (done (ruleOf call) m cells e))
     (left call m cells (sym (answer-is (ruleOf call) m cells) ∙ e))))
