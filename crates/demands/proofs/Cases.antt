@@ -42,11 +42,12 @@ use Rattle.wiring.specs.Wiring.{addRule}
 use Rattle.splices.specs.Splices.{offStrip, shifted, raised, spliceInRule}
 use Rattle.panel.specs.Panel.{bare}
 use Rattle.demands.specs.Runs.{motorSeen}
+use Rattle.demands.specs.Whole.{whole, sameList, samePanel}
 use Rattle.demands.specs.Cases.{right, cases, allRight, story}
 
 -- "W1 to W12 are shown to follow from the rules, as one list with one claim over it."
 pub cases-right : allRight ≡ true
-unfolding allRight cases right first carried tabulate every distinct there any kept howMany lowestFree reactionOf numbersOf paramsOf allowed defaults within timesInRange inRange fullTime bottom nextPlace endOf target wayTo part told started orderedOff orderedRunning orderedAt ordered motorOff stoppedAt stopped freshOf moved arrived shorter ran waited millisecondAt millisecond milliseconds motorOf active busy report soundWait soundRunning soundMotion sound mud ssud towards aimedBetween aimed followed sapbp acted rulerOf dutyUnder dutyOf ruled flagged commanded heeded commandOf inputOf classOf linkInRange keyOf mayFollow linksTo addressClass inOrder tableSound isIn inserted isFirst movedAmong otherClass noLinkTo movedLinks presentIn reseated eachSeat seatsIn soundSeat soundSeats allNamed isSound checks lentChecks reports isOutside linkChecks served delivered afterTelegram telegramRule afterStep stepRule commandAt commands stripRule someSeat inUse busyFrom wouldPass installRule addRule offStrip shifted raised spliceInRule motorSeen
+unfolding allRight cases right whole sameList samePanel first carried tabulate every distinct there any kept howMany lowestFree reactionOf numbersOf paramsOf allowed defaults within timesInRange inRange fullTime bottom nextPlace endOf target wayTo part told started orderedOff orderedRunning orderedAt ordered motorOff stoppedAt stopped freshOf moved arrived shorter ran waited millisecondAt millisecond milliseconds motorOf active busy report soundWait soundRunning soundMotion sound mud ssud towards aimedBetween aimed followed sapbp acted rulerOf dutyUnder dutyOf ruled flagged commanded heeded commandOf inputOf classOf linkInRange keyOf mayFollow linksTo addressClass inOrder tableSound isIn inserted isFirst movedAmong otherClass noLinkTo movedLinks presentIn reseated eachSeat seatsIn soundSeat soundSeats allNamed isSound checks lentChecks reports isOutside linkChecks served delivered afterTelegram telegramRule afterStep stepRule commandAt commands stripRule someSeat inUse busyFrom wouldPass installRule addRule offStrip shifted raised spliceInRule motorSeen
 cases-right = refl
 
 -- Only the west goes up under its wind alarm; the south, at its new terminal, hears only what is its own.

@@ -1,6 +1,6 @@
 -- Document 01, "Cases by number": W1 to W12 as scripts of calls on the panel, with what is seen after them. `cases` is the one list.
 -- Assumes nothing.
-use Prim.Native.Nat.{ℕ, _+_}
+use Prim.Native.Nat.{ℕ, _+_, _-_}
 use mathlib.Core.Bool.{Bool, true, false, not, _&&_}
 use mathlib.Core.List.{List, [], _∷_, _++_}
 use mathlib.Core.Option.{Option, none, some}
@@ -15,6 +15,7 @@ use Rattle.runs.specs.Orders.{same}
 use Rattle.blind.specs.declared.Forced.{Forced}
 use Rattle.blind.specs.declared.Motion.{Motion}
 use Rattle.blind.specs.declared.Blind.{Blind}
+use Rattle.blind.specs.Fields.{withFlags}
 use Rattle.params.specs.Parameters.{defaults}
 use Rattle.answers.specs.Rules.{Result}
 use Rattle.panel.specs.Calls.{Cells, row}
@@ -24,6 +25,7 @@ use Rattle.seats.specs.Untouched.{blindAt}
 use Rattle.params.specs.Numbers.{numbersOf}
 use Rattle.demands.specs.Calls.{Call, telegram, timeStep, install, addLink, spliceIn, does}
 use Rattle.demands.specs.Runs.{motorSeen}
+use Rattle.demands.specs.Whole.{sameList, samePanel, reseat}
 
 -- ---- scripts
 
@@ -31,10 +33,10 @@ use Rattle.demands.specs.Runs.{motorSeen}
 abbrev pub Seen : Type 0
 Seen = Result Model Cells
 
--- A line: a call, and what is looked at in its result.
+-- A line: a call, and what is looked at in the panel before it and in its result.
 pub record Line : Type 0 where
   pub call : Call
-  pub seen : Seen → Bool
+  pub seen : Model → Seen → Bool
 
 -- 64 cells to lend.
 abbrev pub blank : Cells
@@ -43,18 +45,31 @@ blank = row (tabulate places (λ tag. 0))
 -- A script is right if all that is looked at is so, each call on the panel that the one before left.
 unfoldable pub right : List Line → Model → Bool
 right [] m = true
-right (line ∷ lines) m = (line .seen) (does (line .call) m blank) && right lines (does (line .call) m blank .leaves)
+right (line ∷ lines) m = (line .seen) m (does (line .call) m blank) && right lines (does (line .call) m blank .leaves)
+
+-- Answered 0, and what is looked at is so.
+abbrev pub done : (Seen → Bool) → Seen → Bool
+done seen r = eqb (r .answer) 0 && seen r
 
 -- A call that is done, with nothing more to look at; and one with a look.
 abbrev pub plain : Call → Line
-plain call = record { call = call; seen = λ r. eqb (r .answer) 0 }
+plain call = record { call = call; seen = λ before r. eqb (r .answer) 0 }
 
 abbrev pub look : Call → (Seen → Bool) → Line
-look call seen = record { call = call; seen = λ r. eqb (r .answer) 0 && seen r }
+look call seen = record { call = call; seen = λ before r. done seen r }
 
 -- A call that is answered a number.
 abbrev pub answers : Call → ℕ → Line
-answers call number = record { call = call; seen = λ r. eqb (r .answer) number }
+answers call number = record { call = call; seen = λ before r. eqb (r .answer) number }
+
+-- So many milliseconds, with a look one millisecond before their end and a look at their end.
+abbrev pub ends : ℕ → (Seen → Bool) → (Seen → Bool) → Line
+ends dt early late =
+    record { call = timeStep dt; seen = λ before r. done early (does (timeStep (dt - 1)) before blank) && done late r }
+
+-- A call that is done and changes this and nothing else, with a look: in every field the panel is the one before it with the change.
+abbrev pub changes : Call → (Model → Model) → (Seen → Bool) → Line
+changes call change seen = record { call = call; seen = λ before r. done seen r && samePanel (r .leaves) (change before) }
 
 -- ---- what is looked at, of blind 5
 
@@ -117,15 +132,30 @@ restIs n (Motion.Off rest) = eqb rest n
 restIs n (Motion.Waits rest run) = false
 restIs n (Motion.Runs run) = false
 
--- "the flag is set, nothing else changes": the frost flag, and every other field as a fresh blind has it
+-- the frost flag is set, and every other field is as a fresh blind with the default set has it
 abbrev pub frostAlone : Blind → Bool
 frostAlone b =
     b .flags .frost
     && (not (b .flags .wind) && (not (b .flags .rain) && notForced (b .flags .forced)))
     && (eqb (b .place .position) 0 && (not (b .place .valid) && (eitherLast (b .last) && restIs 500 (b .motion))))
+    && sameList eqb (numbersOf (b .params)) (numbersOf defaults)
 
 abbrev pub frost : Seen → Bool
 frost r = onBlind frostAlone (blindAt 5 (r .leaves))
+
+-- "the flag is set"
+abbrev pub frostSet : Seat → Seat
+frostSet seat =
+    record {
+      terminal = seat .terminal;
+      blind = withFlags
+          (record { wind = seat .blind .flags .wind; rain = seat .blind .flags .rain; frost = true; forced = seat .blind .flags .forced })
+          (seat .blind);
+    }
+
+-- a seat at another terminal
+abbrev pub standingAt : ℕ → Seat → Seat
+standingAt terminal seat = record { terminal = terminal; blind = seat .blind }
 
 abbrev pub terminalIn : Option Seat → ℕ
 terminalIn none = 128
@@ -180,7 +210,7 @@ w2 = w1 ++ (look (timeStep 59999) up ∷ look (timeStep 1) (both off (reports 25
 
 -- "Then SAPBP 128 at once: off; 500 ms: down; 30,117 ms: off, report 383."
 abbrev pub w3 : List Line
-w3 = w2 ++ (look (SAPBP 128) off ∷ look (timeStep 500) down ∷ look (timeStep 30117) (both off (reports 383)) ∷ [])
+w3 = w2 ++ (look (SAPBP 128) off ∷ ends 500 off down ∷ ends 30117 down (both off (reports 383)) ∷ [])
 
 -- "Running up, MUD 1: off; 499 ms: off; 1 ms: down."
 abbrev pub w4 : List Line
@@ -192,7 +222,7 @@ w5 = fresh ++ (plain (MUD 1) ∷ look (timeStep 500) (both down fullLength) ∷ 
 
 -- "Last direction up, rest time 0, SSUD 0: up; 200 ms: off."
 abbrev pub w6 : List Line
-w6 = w1 ++ (look (STOP 0) off ∷ plain (timeStep 500) ∷ look (SSUD 0) up ∷ look (timeStep 200) off ∷ [])
+w6 = w1 ++ (look (STOP 0) off ∷ plain (timeStep 500) ∷ look (SSUD 0) up ∷ ends 200 up off ∷ [])
 
 -- "Fresh, SAPBP 100: answer 0, still at rest."
 abbrev pub w7 : List Line
@@ -204,7 +234,7 @@ w8 = fresh ++ (look (WA 1) upWaits ∷ look (MUD 1) upWaits ∷ look (WA 0) (bot
 
 -- "FA 1: the flag is set, nothing else changes."
 abbrev pub w9 : List Line
-w9 = fresh ++ (look (FA 1) (both frost (both off (reports noReport))) ∷ [])
+w9 = fresh ++ (changes (FA 1) (reseat 5 frostSet) (both frost (both off (reports noReport))) ∷ [])
 
 -- "Running down under FO 3, WA 1: off, up waits. WA 0 in the same instant: down, full length."
 abbrev pub w10 : List Line
@@ -215,14 +245,21 @@ w10 =
 abbrev pub notBusy : List Line
 notBusy = fresh ++ (plain (install 6 8 (numbersOf defaults)) ∷ plain (timeStep 500) ∷ [])
 
--- "Not busy, splice in 2 at 9: terminal 11; a blind at 8 stays."
+-- "Not busy, splice in 2 at 9: terminal 11; a blind at 8 stays." And "nothing else changes", as document 01 says of splices.
 abbrev pub w11 : List Line
-w11 = notBusy ++ (look (spliceIn 9 2) (both (stands 5 11) (stands 6 8)) ∷ [])
+w11 = notBusy ++ (changes (spliceIn 9 2) (reseat 5 (standingAt 11)) (both (stands 5 11) (stands 6 8)) ∷ [])
 
 -- "Not busy, splice in at 9: n = 118 gives terminal 127; instead, 119 is answered 9 and 120 is answered 1. A fresh blind, still in its
 -- first pause: 119 is answered 3."
 abbrev pub w12 : List Line
-w12 = fresh ++ (answers (spliceIn 9 119) 3 ∷ plain (timeStep 500) ∷ answers (spliceIn 9 119) 9 ∷ answers (spliceIn 9 120) 1 ∷ look (spliceIn 9 118) (stands 5 127) ∷ [])
+w12 =
+    fresh
+    ++ (answers (spliceIn 9 119) 3
+    ∷ plain (timeStep 500)
+    ∷ answers (spliceIn 9 119) 9
+    ∷ answers (spliceIn 9 120) 1
+    ∷ changes (spliceIn 9 118) (reseat 5 (standingAt 127)) (stands 5 127)
+    ∷ [])
 
 unfoldable pub cases : List (List Line)
 cases = w1 ∷ w2 ∷ w3 ∷ w4 ∷ w5 ∷ w6 ∷ w7 ∷ w8 ∷ w9 ∷ w10 ∷ w11 ∷ w12 ∷ []

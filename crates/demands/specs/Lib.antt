@@ -3,4 +3,7 @@ pub mod Runs
 pub mod Demand1
 pub mod Demand3
 pub mod Demand2
+pub mod Whole
 pub mod Cases
+pub mod Afresh
+pub mod Chain
