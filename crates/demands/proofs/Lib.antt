@@ -12,3 +12,5 @@ pub mod Demand2
 pub mod Waiting
 pub mod Ruling
 pub mod Cases
+pub mod Calm
+pub mod Endings
