@@ -7,10 +7,11 @@ use native.Mathlib.Omega.{arith}
 use mathlib.Core.Path.{_≡_, refl, sym, ap, ap₂, _∙_, subst}
 use mathlib.Core.Bool.{Bool, true, false, cond, not, _&&_}
 use mathlib.Core.List.{List, [], _∷_, _++_}
-use mathlib.Core.Option.{some, Option·map}
+use mathlib.Core.Option.{some, Option·map, Option·some-injective}
 use lib.Dec.{eqb}
-use borrow.Author.Tests.{ne-eqb}
+use borrow.Author.Tests.{eq-eqb, ne-eqb}
 use Rattle.laws.specs.Kept.{kept}
+use Rattle.kinds.specs.Kinds.{sapbp}
 use Rattle.heights.specs.declared.Place.{Place}
 use Rattle.heights.specs.Heights.{bottom, endOf, withPosition, target, told}
 use Rattle.heights.proofs.Numbers.{told-most}
@@ -20,16 +21,23 @@ use Rattle.params.specs.declared.Params.{Params}
 use Rattle.blind.specs.declared.Flags.{Flags}
 use Rattle.blind.specs.declared.Motion.{Motion}
 use Rattle.blind.specs.declared.Blind.{Blind}
-use Rattle.blind.specs.Fields.{withFlags, withMotion}
+use Rattle.blind.specs.Fields.{withFlags}
 use Rattle.blind.specs.Millisecond.{milliseconds}
 use Rattle.blind.proofs.Cutting.{cut}
-use Rattle.outputs.specs.Reports.{active, busy, noReport, report}
+use Rattle.outputs.specs.Reports.{active, noReport, report}
 use Rattle.outputs.proofs.Reports.{report-same}
 use Rattle.sound_blind.specs.Sound as ofBlind
-use Rattle.conduct.specs.Ends.{Engaged, waits, runs, untilEnd}
+use Rattle.inputs.specs.declared.Command.{Command}
+use Rattle.duties.specs.Rulers.{dutyOf, isFree}
+use Rattle.values.specs.declared.Input.{Input}
+use Rattle.values.specs.Telegrams.{commandOf, inputOf}
+use Rattle.rules.specs.Rules.{heeded}
+use Rattle.conduct.specs.Ends.{Engaged, waits, runs, untilEnd, Reaches}
 use Rattle.conduct.proofs.SoundMotions.{milliseconds-sound}
 use Rattle.conduct.proofs.Undisturbed.{milliseconds-flags}
-use Rattle.conduct.proofs.Phases.{below-or, stood-params, full-place, rests-then, active-until, over-then, busy-until}
+use Rattle.conduct.proofs.Phases.{below-or, engaged-in, stood-params, full-place, rests-then, active-until, over-then, busy-until, reaches-then}
+use Rattle.conduct.proofs.Arrivals as ofOne
+use Rattle.link.specs.declared.Link.{Link}
 use Rattle.panel.specs.Panel.{Model}
 use Rattle.panel.specs.Sound.{Fine}
 use Rattle.panel.specs.Calls.{Cells}
@@ -38,6 +46,7 @@ use Rattle.telegrams.specs.Locality.{reached, heardBy}
 use Rattle.demands.specs.Calls.{Call, telegram, timeStep, strip, install, removeBlind, writeParams, addLink, removeLink, spliceIn, spliceOut, inventory, does}
 use Rattle.demands.specs.Runs.{Turn, Run, Each, after, gives, lasting, duration, reportOf, reportIn, reportsOf}
 use Rattle.demands.specs.Calm.{Calm, motionSeen, placeSeen, activeSeen, heard, EndsAt}
+use Rattle.demands.proofs.Soundness.{kept-fine}
 use Rattle.demands.proofs.BlindSeen.{telegram-seen, step-seen}
 use Rattle.demands.proofs.Calm.{Apart, calm-telegram, timeless, turn-passes, calm-passes}
 use Rattle.demands.proofs.Waiting.{blind-sound, at-first, motion-then}
@@ -255,3 +264,38 @@ module _ (tag : ℕ) (run : Run) (b : Blind) (m : Model) (fine : Fine m) (here :
       remains : untilEnd (b .motion) ≤ duration run m
           → b .params .rpt - (duration run m - untilEnd (b .motion)) ≡ untilEnd (b .motion) + b .params .rpt - duration run m
       remains h = omega arith
+
+  -- A full run ends at its end, valid.
+  pub full-run-ends : order .goal ≡ Goal.Full → EndsAt (endOf (order .direction) (b .params)) tag b run m
+  unfolding s
+  full-run-ends full = subst (λ (place : Place). EndsAt place tag b run m) (full-place order b s on full) run-ends
+
+-- ---- a run to a position
+
+module _ (tag address v : ℕ) (b : Blind) (m : Model) (cells : Cells) (fine : Fine m) (here : blindAt tag m ≡ some b)
+    (done : does (telegram address v) m cells .answer ≡ 0) (link : Link) (only : reached tag address m ≡ link ∷ []) (kind : link .kind ≡ sapbp) where
+  position : Input
+  position = Input.Command (Command.Position v)
+
+  -- SAPBP v reaches the blind
+  aims : blindAt tag (does (telegram address v) m cells .leaves) ≡ some (heeded position b)
+  unfolding position heardBy inputOf commandOf
+  aims =
+      telegram-seen tag b m cells (fine .sound) here address v .blind
+      ∙ ap (λ (t : Bool). some (cond t (heardBy v (reached tag address m) b) b)) (eq-eqb (does (telegram address v) m cells .answer) 0 done)
+      ∙ ap (λ (links : List Link). some (heardBy v links b)) only
+      ∙ ap (λ (k : ℕ). some (heeded (inputOf k v) b)) kind
+
+  -- A run to v that SAPBP begins on a valid position ends at floor(v · MUDT / 255).
+  pub run-to-ends : 0 < v → v < 255 → isFree (dutyOf b) ≡ true → b .place .valid ≡ true
+      → (c : Blind) → blindAt tag (does (telegram address v) m cells .leaves) ≡ some c → active c ≡ true
+      → (run : Run) → Each (Calm tag) run (does (telegram address v) m cells .leaves)
+      → EndsAt (withPosition (target v (b .params)) (b .place)) tag c run (does (telegram address v) m cells .leaves)
+  unfolding position active
+  run-to-ends above below free known c there on run calm =
+      let is : heeded (Input.Command (Command.Position v)) b ≡ c = Option·some-injective _ c (sym aims ∙ there) in
+      let reaches : Reaches (withPosition (target v (b .params)) (b .place)) c =
+      subst (Reaches (withPosition (target v (b .params)) (b .place))) is (ofOne.run-to-ends v b above below free known (blind-sound tag b m fine here)) in
+      let (order, engaged) = engaged-in (c .motion) on in
+      subst (λ (place : Place). EndsAt place tag c run (does (telegram address v) m cells .leaves)) (reaches-then _ c reaches)
+      (run-ends tag run c (does (telegram address v) m cells .leaves) (kept-fine (telegram address v) m cells fine) there order engaged calm)
