@@ -41,7 +41,7 @@ use Rattle.writes.proofs.Passed.{writable}
 use Rattle.demands.specs.Calls.{Call, telegram, timeStep, strip, install, removeBlind, writeParams, addLink, removeLink, spliceIn, spliceOut, inventory, does}
 use Rattle.demands.specs.Runs.{Turn, Run, Each, after, gives, lasts, lasting, duration}
 use Rattle.demands.specs.Demand2.{Moment, Unheeded, moments, trace}
-use Rattle.demands.specs.Calm.{Calm, motorIn}
+use Rattle.demands.specs.Calm.{Calm, Within, motorIn}
 use Rattle.demands.proofs.Seats.{seat-of}
 use Rattle.demands.proofs.Soundness.{kept-fine}
 use Rattle.demands.proofs.Alike.{spared, add-blind, remove-link-blind}
@@ -221,6 +221,19 @@ moments-later (suc j) x rest zero h = absurd (omega arith)
 moments-later (suc j) x rest (suc k) h =
     moments-later j (millisecond x) rest k (omega arith) ∙ ap (λ (n : ℕ). getD rest n idle) (sym (suc-sub-suc k j))
 
+-- ---- runs whose calls begin before n milliseconds are gone
+
+-- a shorter run is one of them
+pub short-within : (n : ℕ) (run : Run) (m : Model) → duration run m < n → Within n run m
+unfolding duration
+short-within n [] m h = tt
+short-within n (turn ∷ run) m h =
+    (omega arith, short-within (n - lasting turn m) run (gives turn m .leaves) (omega arith))
+
+-- after t milliseconds, and j more
+pub within-later : (n t j : ℕ) (run : Run) (m : Model) → Within (n - t - j) run m → Within (n - (t + j)) run m
+within-later n t j run m w = let same : n - t - j ≡ n - (t + j) = omega arith in subst (λ (k : ℕ). Within k run m) same w
+
 -- ---- a whole run, on a blind that is busy for n milliseconds
 
 module _ (tag n : ℕ) (b : Blind) (busy-until : (k : ℕ) → k < n → busy (milliseconds k b) ≡ true) where
@@ -231,16 +244,18 @@ module _ (tag n : ℕ) (b : Blind) (busy-until : (k : ℕ) → k < n → busy (m
       (call-passes tag (milliseconds t b) m (turn .cells) (busy-until t h) a (turn .call) calm)
 
   -- what is left of the blind: its milliseconds passed
-  pub calm-passes : (run : Run) (t : ℕ) (m : Model) → Apart tag (milliseconds t b) m → Each (Calm tag) run m → t + duration run m < n
+  pub calm-passes : (run : Run) (t : ℕ) (m : Model) → Apart tag (milliseconds t b) m → Each (Calm tag) run m → Within (n - t) run m
       → Apart tag (milliseconds (t + duration run m) b) (after run m)
   unfolding after duration
-  calm-passes [] t m a calm h = subst (λ (k : ℕ). Apart tag (milliseconds k b) m) (sym (add-zero t)) a
-  calm-passes (turn ∷ run) t m a calm h =
+  calm-passes [] t m a calm w = subst (λ (k : ℕ). Apart tag (milliseconds k b) m) (sym (add-zero t)) a
+  calm-passes (turn ∷ run) t m a calm w =
+      let next = gives turn m .leaves in
       let j = lasting turn m in
-      let d = duration run (gives turn m .leaves) in
+      let d = duration run next in
+      let begun : 0 < n - t = w .0 in
       let together : t + j + d ≡ t + (j + d) = omega arith in
-      subst (λ (k : ℕ). Apart tag (milliseconds k b) (after run (gives turn m .leaves))) together
-      (calm-passes run (t + j) (gives turn m .leaves) (turn-passes turn t m (omega arith) a (calm .0)) (calm .1) (omega arith))
+      subst (λ (k : ℕ). Apart tag (milliseconds k b) (after run next)) together
+      (calm-passes run (t + j) next (turn-passes turn t m (omega arith) a (calm .0)) (calm .1) (within-later n t j run next (w .1)))
 
   -- what each millisecond finds, those of a step that runs past the n among them
   pub calm-trace : (run : Run) (t : ℕ) (m : Model) → Apart tag (milliseconds t b) m → Each (Calm tag) run m

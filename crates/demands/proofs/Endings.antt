@@ -1,16 +1,13 @@
--- Runs that end, over runs of calls: after exactly its time an undisturbed run is over, at its place, and one cell tells of it. The
--- reports of a calm run are the one report that all its milliseconds at once would give.
+-- Runs that end, over runs of calls: after exactly its time an undisturbed run is over, at its place, and one cell tells of it.
 -- Assumes nothing.
 use Prim.Native.Nat.{ℕ, _+_, _-_, _≤_, _<_}
-use native.Mathlib.Nat.{add-zero, zero-add}
+use native.Mathlib.Nat.{zero-add, sub-zero}
 use native.Mathlib.Omega.{arith}
-use mathlib.Core.Path.{_≡_, refl, sym, ap, ap₂, _∙_, subst}
-use mathlib.Core.Bool.{Bool, true, false, cond, not, _&&_}
-use mathlib.Core.List.{List, [], _∷_, _++_}
+use mathlib.Core.Path.{_≡_, sym, ap, ap₂, _∙_, subst}
+use mathlib.Core.Bool.{Bool, true, cond, not, _&&_}
+use mathlib.Core.List.{List, [], _∷_}
 use mathlib.Core.Option.{some, Option·map, Option·some-injective}
-use lib.Dec.{eqb}
-use borrow.Author.Tests.{eq-eqb, ne-eqb}
-use Rattle.laws.specs.Kept.{kept}
+use borrow.Author.Tests.{eq-eqb}
 use Rattle.kinds.specs.Kinds.{sapbp}
 use Rattle.heights.specs.declared.Place.{Place}
 use Rattle.heights.specs.Heights.{bottom, endOf, withPosition, target, told}
@@ -18,14 +15,10 @@ use Rattle.heights.proofs.Numbers.{told-most}
 use Rattle.runs.specs.declared.Goal.{Goal}
 use Rattle.runs.specs.declared.Run as ofRuns
 use Rattle.params.specs.declared.Params.{Params}
-use Rattle.blind.specs.declared.Flags.{Flags}
 use Rattle.blind.specs.declared.Motion.{Motion}
 use Rattle.blind.specs.declared.Blind.{Blind}
-use Rattle.blind.specs.Fields.{withFlags}
 use Rattle.blind.specs.Millisecond.{milliseconds}
-use Rattle.blind.proofs.Cutting.{cut}
 use Rattle.outputs.specs.Reports.{active, noReport, report}
-use Rattle.outputs.proofs.Reports.{report-same}
 use Rattle.sound_blind.specs.Sound as ofBlind
 use Rattle.inputs.specs.declared.Command.{Command}
 use Rattle.duties.specs.Rulers.{dutyOf, isFree}
@@ -34,8 +27,7 @@ use Rattle.values.specs.Telegrams.{commandOf, inputOf}
 use Rattle.rules.specs.Rules.{heeded}
 use Rattle.conduct.specs.Ends.{Engaged, waits, runs, untilEnd, Reaches}
 use Rattle.conduct.proofs.SoundMotions.{milliseconds-sound}
-use Rattle.conduct.proofs.Undisturbed.{milliseconds-flags}
-use Rattle.conduct.proofs.Phases.{below-or, engaged-in, stood-params, full-place, rests-then, active-until, over-then, busy-until, reaches-then}
+use Rattle.conduct.proofs.Phases.{engaged-in, stood-params, full-place, rests-then, active-until, over-then, busy-until, reaches-then}
 use Rattle.conduct.proofs.Arrivals as ofOne
 use Rattle.link.specs.declared.Link.{Link}
 use Rattle.panel.specs.Panel.{Model}
@@ -43,160 +35,14 @@ use Rattle.panel.specs.Sound.{Fine}
 use Rattle.panel.specs.Calls.{Cells}
 use Rattle.seats.specs.Untouched.{blindAt}
 use Rattle.telegrams.specs.Locality.{reached, heardBy}
-use Rattle.demands.specs.Calls.{Call, telegram, timeStep, strip, install, removeBlind, writeParams, addLink, removeLink, spliceIn, spliceOut, inventory, does}
-use Rattle.demands.specs.Runs.{Turn, Run, Each, after, gives, lasting, duration, reportOf, reportIn, reportsOf}
-use Rattle.demands.specs.Calm.{Calm, motionSeen, placeSeen, activeSeen, heard, EndsAt}
+use Rattle.demands.specs.Calls.{telegram, does}
+use Rattle.demands.specs.Runs.{Run, Each, after, duration}
+use Rattle.demands.specs.Calm.{Calm, Within, heard, EndsAt}
 use Rattle.demands.proofs.Soundness.{kept-fine}
-use Rattle.demands.proofs.BlindSeen.{telegram-seen, step-seen}
-use Rattle.demands.proofs.Calm.{Apart, calm-telegram, timeless, turn-passes, calm-passes}
+use Rattle.demands.proofs.BlindSeen.{telegram-seen}
+use Rattle.demands.proofs.Calm.{Apart, short-within, calm-passes}
 use Rattle.demands.proofs.Waiting.{blind-sound, at-first, motion-then}
-
--- ---- cells that tell something
-
-tells : ℕ → Bool
-tells n = not (eqb n noReport)
-
--- those of a list, and of two lists
-said : List ℕ → List ℕ
-said = kept tells
-
-said-append : (xs ys : List ℕ) → said (xs ++ ys) ≡ said xs ++ said ys
-unfolding said kept
-said-append [] ys = refl
-said-append (x ∷ xs) ys = go (tells x) (said-append xs ys)
-  where
-    go : (t : Bool) → said (xs ++ ys) ≡ said xs ++ said ys → cond t (x ∷ said (xs ++ ys)) (said (xs ++ ys)) ≡ cond t (x ∷ said xs) (said xs) ++ said ys
-    go true e = ap (λ (l : List ℕ). x ∷ l) e
-    go false e = e
-
--- a cell that is 512 tells nothing
-said-none : (n : ℕ) → n ≡ noReport → said (n ∷ []) ≡ []
-unfolding said kept tells
-said-none n e = ap (λ (k : ℕ). said (k ∷ [])) e
-
-said-one : (n : ℕ) → n < 512 → said (n ∷ []) ≡ n ∷ []
-unfolding said kept tells
-said-one n h = rw (ne-eqb n noReport (λ e. omega arith))
-
--- ---- one call
-
--- the flags are no part of a report
-report-flags : (f g : Flags) (x y : Blind) → report (withFlags f x) (withFlags g y) ≡ report x y
-unfolding report active
-report-flags f g x y = refl
-
-module _ (tag : ℕ) (b : Blind) (m : Model) (cells : Cells) (a : Apart tag b m) where
-  -- what a telegram that does not disturb reports: nothing, as no milliseconds would
-  telegram-report : (address value : ℕ) → Calm tag (record { call = telegram address value; cells = cells }) m
-      → reportOf tag (does (telegram address value) m cells) ≡ noReport
-  telegram-report address value calm =
-      let t = does (telegram address value) m cells in
-      let now = withFlags (a .flags) b in
-      let new = calm-telegram tag now m cells address value calm (a .blind) in
-      telegram-seen tag now m cells (a .fine .sound) (a .blind) address value .report
-      ∙ go (eqb (t .answer) 0) now (heardBy value (reached tag address m) now) (new .flags) (new .same)
-    where
-      go : (done : Bool) (now next : Blind) (f : Flags) → cond done next now ≡ withFlags f now → cond done (report now next) noReport ≡ noReport
-      go true now next f e = ap (report now) e ∙ report-flags (now .flags) f now now ∙ report-same now
-      go false now next f e = refl
-
-  step-report : (dt : ℕ)
-      → reportOf tag (does (timeStep dt) m cells) ≡ report b (milliseconds (lasting (record { call = timeStep dt; cells = cells }) m) b)
-  unfolding lasting milliseconds
-  step-report dt =
-      step-seen tag (withFlags (a .flags) b) m cells (a .fine .sound) (a .blind) dt .report
-      ∙ go (eqb (does (timeStep dt) m cells .answer) 0)
-    where
-      go : (done : Bool) → cond done (report (withFlags (a .flags) b) (milliseconds dt (withFlags (a .flags) b))) noReport
-          ≡ report b (milliseconds (cond done dt 0) b)
-      go true = ap (report (withFlags (a .flags) b)) (milliseconds-flags dt (a .flags) b) ∙ report-flags (a .flags) (a .flags) b (milliseconds dt b)
-      go false = sym (report-same b)
-
-  -- where no time passes nothing is to be told
-  at-rest : (k : ℕ) → k ≡ 0 → said (report b (milliseconds k b) ∷ []) ≡ []
-  unfolding milliseconds
-  at-rest k none = said-none _ (ap (λ (j : ℕ). report b (milliseconds j b)) none ∙ report-same b)
-
-  -- what a call tells is what its milliseconds tell
-  call-tells : (call : Call) → Calm tag (record { call = call; cells = cells }) m
-      → said (reportIn tag call (does call m cells)) ≡ said (report b (milliseconds (lasting (record { call = call; cells = cells }) m) b) ∷ [])
-  unfolding said kept
-  call-tells (telegram address value) calm =
-      said-none _ (telegram-report address value calm) ∙ sym (at-rest _ (timeless (telegram address value) cells m refl))
-  call-tells (timeStep dt) calm = ap (λ (n : ℕ). said (n ∷ [])) (step-report dt)
-  call-tells strip calm = sym (at-rest _ (timeless strip cells m refl))
-  call-tells (install other terminal asked) calm = sym (at-rest _ (timeless (install other terminal asked) cells m refl))
-  call-tells (removeBlind other) calm = sym (at-rest _ (timeless (removeBlind other) cells m refl))
-  call-tells (writeParams other asked) calm = sym (at-rest _ (timeless (writeParams other asked) cells m refl))
-  call-tells (addLink link) calm = sym (at-rest _ (timeless (addLink link) cells m refl))
-  call-tells (removeLink link) calm = sym (at-rest _ (timeless (removeLink link) cells m refl))
-  call-tells (spliceIn t n) calm = sym (at-rest _ (timeless (spliceIn t n) cells m refl))
-  call-tells (spliceOut t n) calm = sym (at-rest _ (timeless (spliceOut t n) cells m refl))
-  call-tells inventory calm = sym (at-rest _ (timeless inventory cells m refl))
-
--- ---- a whole run, of a blind whose run is on
-
-module _ (tag : ℕ) (b : Blind) (s : ofBlind.Sound b) (order : ofRuns.Run) (on : Engaged order (b .motion)) where
-  -- when its run is over, and when the pause after it
-  end : ℕ
-  end = untilEnd (b .motion)
-
-  stood : Blind
-  stood = milliseconds end b
-
-  -- from its end on a blind tells one and the same
-  tells-same : (k : ℕ) → end ≤ k → told (milliseconds k b .params) (milliseconds k b .place) ≡ told (b .params) (stood .place)
-  unfolding end stood
-  tells-same k h =
-      let split : k ≡ untilEnd (b .motion) + (k - untilEnd (b .motion)) = omega arith in
-      ap (λ (j : ℕ). told (milliseconds j b .params) (milliseconds j b .place)) split
-      ∙ ap (λ (x : Blind). told (x .params) (x .place)) (rests-then order b s on (k - untilEnd (b .motion)))
-      ∙ ap (λ (p : Params). told p (milliseconds (untilEnd (b .motion)) b .place)) (stood-params order b s on)
-
-  -- a stretch of milliseconds tells what its two parts tell
-  parts : (t u v : ℕ) → t ≤ u → u ≤ v
-      → said (report (milliseconds t b) (milliseconds u b) ∷ []) ++ said (report (milliseconds u b) (milliseconds v b) ∷ [])
-      ≡ said (report (milliseconds t b) (milliseconds v b) ∷ [])
-  unfolding end report
-  parts t u v h l =
-      below-or u end
-      (λ low.
-      let then-on : active (milliseconds u b) ≡ true = active-until order b s on u low in
-      let first-on : active (milliseconds t b) ≡ true = active-until order b s on t (omega arith) in
-      ap (λ (xs : List ℕ). xs ++ said (report (milliseconds u b) (milliseconds v b) ∷ [])) (said-none _ (rw (then-on, first-on)))
-      ∙ ap (λ (x : Bool). said (cond (x && not (active (milliseconds v b))) (told (milliseconds v b .params) (milliseconds v b .place)) noReport ∷ []))
-      (then-on ∙ sym first-on))
-      (λ high.
-      let then-off : active (milliseconds u b) ≡ false = over-then order b s on u high in
-      let last-off : active (milliseconds v b) ≡ false = over-then order b s on v (omega arith) in
-      ap (λ (xs : List ℕ). said (report (milliseconds t b) (milliseconds u b) ∷ []) ++ xs) (said-none _ (rw then-off))
-      ∙ nothing-more (said (report (milliseconds t b) (milliseconds u b) ∷ []))
-      ∙ ap₂ (λ (x : Bool) (n : ℕ). said (cond (active (milliseconds t b) && not x) n noReport ∷ []))
-      (then-off ∙ sym last-off) (tells-same u high ∙ sym (tells-same v (omega arith))))
-    where
-      nothing-more : (xs : List ℕ) → xs ++ [] ≡ xs
-      nothing-more [] = refl
-      nothing-more (x ∷ xs) = ap (λ (l : List ℕ). x ∷ l) (nothing-more xs)
-
-  -- what a calm run tells is what its milliseconds at once would tell
-  run-tells : (run : Run) (t : ℕ) (m : Model) → Apart tag (milliseconds t b) m → Each (Calm tag) run m → t + duration run m < end + b .params .rpt
-      → said (reportsOf tag run m) ≡ said (report (milliseconds t b) (milliseconds (t + duration run m) b) ∷ [])
-  unfolding reportsOf duration said kept end
-  run-tells [] t m a calm h =
-      sym (said-none _ (ap (λ (k : ℕ). report (milliseconds t b) (milliseconds k b)) (add-zero t) ∙ report-same (milliseconds t b)))
-  run-tells (turn ∷ run) t m a calm h =
-      let next = gives turn m .leaves in
-      let j = lasting turn m in
-      let d = duration run next in
-      let together : t + j + d ≡ t + (j + d) = omega arith in
-      let later = turn-passes tag (end + b .params .rpt) b (busy-until order b s on) turn t m (omega arith) a (calm .0) in
-      said-append (reportIn tag (turn .call) (gives turn m)) (reportsOf tag run next)
-      ∙ ap₂ (λ (xs ys : List ℕ). xs ++ ys)
-      (call-tells tag (milliseconds t b) m (turn .cells) a (turn .call) (calm .0)
-      ∙ ap (λ (x : Blind). said (report (milliseconds t b) x ∷ [])) (sym (cut t j b)))
-      (run-tells run (t + j) next later (calm .1) (omega arith))
-      ∙ parts t (t + j) (t + j + d) (omega arith) (omega arith)
-      ∙ ap (λ (k : ℕ). said (report (milliseconds t b) (milliseconds k b) ∷ [])) together
+use Rattle.demands.proofs.Tells.{said, tells, said-none, said-one, tells-same, run-tells}
 
 -- ---- the end of a run
 
@@ -213,27 +59,33 @@ module _ (tag : ℕ) (run : Run) (b : Blind) (m : Model) (fine : Fine m) (here :
   s : ofBlind.Sound b
   s = blind-sound tag b m fine here
 
-  -- the blind after the run, apart from its flags
-  left : duration run m < untilEnd (b .motion) + b .params .rpt → Apart tag (milliseconds (duration run m) b) (after run m)
-  left h =
-      subst (λ (k : ℕ). Apart tag (milliseconds k b) (after run m)) (zero-add (duration run m))
-      (calm-passes tag (untilEnd (b .motion) + b .params .rpt) b (busy-until order b s on) run 0 m (at-first tag b m fine here) calm (omega arith))
+  from-first : Within (untilEnd (b .motion) + b .params .rpt) run m → Within (untilEnd (b .motion) + b .params .rpt - 0) run m
+  from-first w = subst (λ (n : ℕ). Within n run m) (sym (sub-zero (untilEnd (b .motion) + b .params .rpt))) w
 
-  reported : duration run m < untilEnd (b .motion) + b .params .rpt → heard tag run m ≡ said (report b (milliseconds (duration run m) b) ∷ [])
-  unfolding said tells end milliseconds
-  reported h =
-      run-tells tag b s order on run 0 m (at-first tag b m fine here) calm (omega arith)
+  short : duration run m < untilEnd (b .motion) → Within (untilEnd (b .motion) + b .params .rpt) run m
+  short h = short-within (untilEnd (b .motion) + b .params .rpt) run m (omega arith)
+
+  -- the blind after the run, apart from its flags
+  left : Within (untilEnd (b .motion) + b .params .rpt) run m → Apart tag (milliseconds (duration run m) b) (after run m)
+  left w =
+      subst (λ (k : ℕ). Apart tag (milliseconds k b) (after run m)) (zero-add (duration run m))
+      (calm-passes tag (untilEnd (b .motion) + b .params .rpt) b (busy-until order b s on) run 0 m (at-first tag b m fine here) calm (from-first w))
+
+  reported : Within (untilEnd (b .motion) + b .params .rpt) run m → heard tag run m ≡ said (report b (milliseconds (duration run m) b) ∷ [])
+  unfolding said tells milliseconds
+  reported w =
+      run-tells tag b s order on run 0 m (at-first tag b m fine here) calm (from-first w)
       ∙ ap (λ (k : ℕ). said (report b (milliseconds k b) ∷ [])) (zero-add (duration run m))
 
   -- Any run that is on, of any goal: it ends where its milliseconds lead, after exactly its time.
   pub run-ends : EndsAt (milliseconds (untilEnd (b .motion)) b .place) tag b run m
-  unfolding active report end stood milliseconds
+  unfolding active report milliseconds
   run-ends =
       record {
         on-before = λ h.
-            ap (Option·map {B = Bool} active) (left (omega arith) .blind) ∙ ap (λ (x : Bool). some x) (active-until order b s on (duration run m) h);
+            ap (Option·map {B = Bool} active) (left (short h) .blind) ∙ ap (λ (x : Bool). some x) (active-until order b s on (duration run m) h);
         silent-before = λ h.
-            reported (omega arith)
+            reported (short h)
             ∙ said-none _ (rw (active-until order b s on 0 (omega arith), active-until order b s on (duration run m) h));
         there = λ h l.
             ap (Option·map {B = Place} (λ (x : Blind). x .place)) (left l .blind)

@@ -13,4 +13,5 @@ pub mod Waiting
 pub mod Ruling
 pub mod Cases
 pub mod Calm
+pub mod Tells
 pub mod Endings

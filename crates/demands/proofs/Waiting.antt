@@ -2,7 +2,7 @@
 -- ordered, and then the motor is off for the pause.
 -- Assumes nothing.
 use Prim.Native.Nat.{ℕ, _+_, _-_, _≤_, _<_}
-use native.Mathlib.Nat.{zero-add}
+use native.Mathlib.Nat.{zero-add, sub-zero}
 use native.Mathlib.Omega.{arith}
 use mathlib.Core.Path.{_≡_, sym, ap, _∙_, subst}
 use mathlib.Core.Bool.{true}
@@ -22,9 +22,9 @@ use Rattle.panel.specs.Sound.{Fine}
 use Rattle.seats.specs.Untouched.{blindAt}
 use Rattle.demands.specs.Runs.{Run, Each, after, duration}
 use Rattle.demands.specs.Demand2.{trace}
-use Rattle.demands.specs.Calm.{Calm, motorIn, motionSeen, Shows, Keeps}
+use Rattle.demands.specs.Calm.{Calm, Within, motorIn, motionSeen, Shows, Keeps}
 use Rattle.demands.proofs.Seats.{seat-of}
-use Rattle.demands.proofs.Calm.{Apart, calm-passes, calm-trace}
+use Rattle.demands.proofs.Calm.{Apart, short-within, calm-passes, calm-trace}
 
 -- the blind of a sound panel is sound
 pub blind-sound : (tag : ℕ) (b : Blind) (m : Model) → Fine m → blindAt tag m ≡ some b → ofBlind.Sound b
@@ -82,17 +82,21 @@ module _ (tag : ℕ) (run : Run) (b : Blind) (m : Model) (fine : Fine m) (here :
         then-off = λ k long h l. found k long l ∙ ap motorAt (rests-now k h);
       }
 
-  after-calm : duration run m < rest + order .length + b .params .rpt → motionSeen tag (after run m) ≡ some (milliseconds (duration run m) b .motion)
-  after-calm h =
+  after-calm : Within (rest + order .length + b .params .rpt) run m → motionSeen tag (after run m) ≡ some (milliseconds (duration run m) b .motion)
+  after-calm w =
       motion-then tag (milliseconds (0 + duration run m) b) (after run m)
-      (calm-passes tag (rest + order .length + b .params .rpt) b busy-now run 0 m (at-first tag b m fine here) calm (omega arith))
+      (calm-passes tag (rest + order .length + b .params .rpt) b busy-now run 0 m (at-first tag b m fine here) calm
+      (subst (λ (n : ℕ). Within n run m) (sym (sub-zero (rest + order .length + b .params .rpt))) w))
       ∙ ap (λ (j : ℕ). some (milliseconds j b .motion)) (zero-add (duration run m))
 
+  short : duration run m < rest + order .length → Within (rest + order .length + b .params .rpt) run m
+  short h = short-within (rest + order .length + b .params .rpt) run m (omega arith)
+
   -- And what the blind does at the end of any such run.
-  pub order-keeps : Keeps rest order (b .params .rpt) (duration run m) (motionSeen tag (after run m))
+  pub order-keeps : Keeps rest order (b .params .rpt) tag run m
   order-keeps =
       record {
-        waits = λ h. after-calm (omega arith) ∙ ap (λ (x : Motion). some x) (waits-until b rest order waits-now (duration run m) h);
-        runs = λ h l. after-calm (omega arith) ∙ ap (λ (x : Motion). some x) (runs-then b rest order waits-now (duration run m) above h l);
-        rests = λ h l. after-calm l ∙ ap (λ (x : Motion). some x) (rests-now (duration run m) h);
+        waits = λ h. after-calm (short (omega arith)) ∙ ap (λ (x : Motion). some x) (waits-until b rest order waits-now (duration run m) h);
+        runs = λ h l. after-calm (short l) ∙ ap (λ (x : Motion). some x) (runs-then b rest order waits-now (duration run m) above h l);
+        rests = λ h w. after-calm w ∙ ap (λ (x : Motion). some x) (rests-now (duration run m) h);
       }

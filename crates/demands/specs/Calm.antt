@@ -21,7 +21,7 @@ use Rattle.panel.specs.Panel.{Model}
 use Rattle.telegrams.specs.Locality.{reached}
 use Rattle.seats.specs.Untouched.{blindAt}
 use Rattle.demands.specs.Calls.{telegram}
-use Rattle.demands.specs.Runs.{Turn, Run, gives, after, duration, reportsOf}
+use Rattle.demands.specs.Runs.{Turn, Run, gives, after, lasting, duration, reportsOf}
 use Rattle.demands.specs.Demand2.{Moment, Unheeded}
 
 -- "No accepted telegram disturbs the blind." Every other call may come, done or refused, and every refused telegram.
@@ -29,6 +29,11 @@ abbrev pub Calm : ℕ → Turn → Model → Type 0
 Calm tag turn m =
     (address value : ℕ) (b : Blind) → turn .call ≡ telegram address value → gives turn m .answer ≡ 0 → blindAt tag m ≡ some b
     → Unheeded value (reached tag address m) b
+
+-- Each call of a run begins before so many of its milliseconds are gone; the last may run past them. A shorter run is always so.
+abbrev pub Within : ℕ → Run → Model → Type 0
+Within n [] m = Unit {0}
+Within n (turn ∷ run) m = (0 < n) × Within (n - lasting turn m) run (gives turn m .leaves)
 
 -- ---- what is seen
 
@@ -58,11 +63,13 @@ pub record Shows (rest : ℕ) (order : ofRuns.Run) (pause : ℕ) (list : List Mo
   pub then-on : (k : ℕ) → k < length list → rest ≤ k → k < rest + order .length → motorIn list k ≡ command (order .direction)
   pub then-off : (k : ℕ) → k < length list → rest + order .length ≤ k → k < rest + order .length + pause → motorIn list k ≡ 0
 
--- "Goal and length are the order's": what the blind does after so many milliseconds.
-pub record Keeps (rest : ℕ) (order : ofRuns.Run) (pause past : ℕ) (now : Option Motion) : Type 0 where
-  pub waits : past < rest → now ≡ some (Motion.Waits (rest - past) order)
-  pub runs : rest ≤ past → past < rest + order .length → now ≡ some (Motion.Runs (shorter (past - rest) order))
-  pub rests : rest + order .length ≤ past → past < rest + order .length + pause → now ≡ some (Motion.Off (rest + order .length + pause - past))
+-- "Goal and length are the order's": what the blind does at the end of a run.
+pub record Keeps (rest : ℕ) (order : ofRuns.Run) (pause tag : ℕ) (run : Run) (m : Model) : Type 0 where
+  pub waits : duration run m < rest → motionSeen tag (after run m) ≡ some (Motion.Waits (rest - duration run m) order)
+  pub runs : rest ≤ duration run m → duration run m < rest + order .length
+      → motionSeen tag (after run m) ≡ some (Motion.Runs (shorter (duration run m - rest) order))
+  pub rests : rest + order .length ≤ duration run m → Within (rest + order .length + pause) run m
+      → motionSeen tag (after run m) ≡ some (Motion.Off (rest + order .length + pause - duration run m))
 
 -- ---- the end of a run
 
@@ -71,9 +78,9 @@ pub record Keeps (rest : ℕ) (order : ofRuns.Run) (pause past : ℕ) (now : Opt
 pub record EndsAt (place : Place) (tag : ℕ) (b : Blind) (run : Run) (m : Model) : Type 0 where
   pub on-before : duration run m < untilEnd (b .motion) → activeSeen tag (after run m) ≡ some true
   pub silent-before : duration run m < untilEnd (b .motion) → heard tag run m ≡ []
-  pub there : untilEnd (b .motion) ≤ duration run m → duration run m < untilEnd (b .motion) + b .params .rpt
+  pub there : untilEnd (b .motion) ≤ duration run m → Within (untilEnd (b .motion) + b .params .rpt) run m
       → placeSeen tag (after run m) ≡ some place
-  pub rests : untilEnd (b .motion) ≤ duration run m → duration run m < untilEnd (b .motion) + b .params .rpt
+  pub rests : untilEnd (b .motion) ≤ duration run m → Within (untilEnd (b .motion) + b .params .rpt) run m
       → motionSeen tag (after run m) ≡ some (Motion.Off (untilEnd (b .motion) + b .params .rpt - duration run m))
-  pub told-once : untilEnd (b .motion) ≤ duration run m → duration run m < untilEnd (b .motion) + b .params .rpt
+  pub told-once : untilEnd (b .motion) ≤ duration run m → Within (untilEnd (b .motion) + b .params .rpt) run m
       → heard tag run m ≡ told (b .params) place ∷ []
