@@ -60,6 +60,14 @@ module _ (b : Blind) (rest : ℕ) (order : Run) (waits-now : b .motion ≡ Motio
       ∙ ap (λ (x : Blind). milliseconds (k - rest) x) (wait-over rest order b above)
       ∙ running (k - rest) order (withLast (lastOf (order .direction)) b) within)
 
+-- a run goes on until its length is used up
+pub runs-on : (b : Blind) (order : Run) → b .motion ≡ Motion.Runs order → (k : ℕ) → k < order .length
+    → milliseconds k b .motion ≡ Motion.Runs (shorter k order)
+runs-on b order runs-now k h =
+    let within : k ≤ order .length - 1 = omega arith in
+    ap (λ (motion : Motion). milliseconds k (withMotion motion b) .motion) runs-now
+    ∙ ap (λ (x : Blind). x .motion) (running k order b within)
+
 -- ---- a run that is on, waiting or running
 
 -- who runs or waits is busy
@@ -91,7 +99,10 @@ module _ (run : Run) (b : Blind) (s : Sound b) (on : Engaged run (b .motion)) wh
   unfolding arrived motorOff
   full-place full =
       ap (λ (x : Blind). x .place) (ends run b s on)
-      ∙ ap (λ (g : Goal). arrived g (run .direction) (motorOff (movedBy (run .length) (run .direction) (withLast (lastOf (run .direction)) b))) .place) full
+      ∙ ap (λ (g : Goal). arrived g (run .direction) over .place) full
+    where
+      over : Blind
+      over = motorOff (movedBy (run .length) (run .direction) (withLast (lastOf (run .direction)) b))
 
   -- from then on it rests
   pub rests-then : (k : ℕ) → milliseconds (untilEnd (b .motion) + k) b
@@ -112,10 +123,7 @@ module _ (run : Run) (b : Blind) (s : Sound b) (on : Engaged run (b .motion)) wh
       go motion (waits rest) sound e l =
           below-or k rest (λ low. ap activeAt (waits-until b rest run e k low))
           (λ high. ap activeAt (runs-then b rest run e k (sound .rest-above) high l))
-      go motion runs sound e l =
-          let within : k ≤ run .length - 1 = omega arith in
-          ap (λ (x : Motion). activeAt (milliseconds k (withMotion x b) .motion)) e
-          ∙ ap (λ (x : Blind). activeAt (x .motion)) (running k run b within)
+      go motion runs sound e l = ap activeAt (runs-on b run e k l)
 
   pub over-then : (k : ℕ) → untilEnd (b .motion) ≤ k → active (milliseconds k b) ≡ false
   unfolding active

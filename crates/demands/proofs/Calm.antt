@@ -147,11 +147,13 @@ module _ (tag : ℕ) (b : Blind) (m : Model) (cells : Cells) (is-busy : busy b �
       (record { fine = kept-fine call m cells (a .fine); flags = a .flags; blind = same ∙ a .blind })
 
   told : (address value : ℕ) → Calm tag (record { call = telegram address value; cells = cells }) m
-      → Apart tag (milliseconds (lasting (record { call = telegram address value; cells = cells }) m) b) (does (telegram address value) m cells .leaves)
+      → Apart tag (milliseconds (lasting (record { call = telegram address value; cells = cells }) m) b)
+      (does (telegram address value) m cells .leaves)
   unfolding milliseconds now
   told address value calm =
       let new = calm-telegram tag now m cells address value calm (a .blind) in
-      subst (λ (k : ℕ). Apart tag (milliseconds k b) (does (telegram address value) m cells .leaves)) (sym (timeless (telegram address value) cells m refl))
+      subst (λ (k : ℕ). Apart tag (milliseconds k b) (does (telegram address value) m cells .leaves))
+      (sym (timeless (telegram address value) cells m refl))
       (record {
         fine = kept-fine (telegram address value) m cells (a .fine);
         flags = new .flags;
@@ -168,7 +170,8 @@ module _ (tag : ℕ) (b : Blind) (m : Model) (cells : Cells) (is-busy : busy b �
             ∙ ap (λ (x : Blind). some x) (go (eqb (does (timeStep dt) m cells .answer) 0));
       }
     where
-      go : (done : Bool) → cond done (milliseconds dt (withFlags (a .flags) b)) (withFlags (a .flags) b) ≡ withFlags (a .flags) (milliseconds (cond done dt 0) b)
+      go : (done : Bool)
+          → cond done (milliseconds dt (withFlags (a .flags) b)) (withFlags (a .flags) b) ≡ withFlags (a .flags) (milliseconds (cond done dt 0) b)
       go true = milliseconds-flags dt (a .flags) b
       go false = refl
 

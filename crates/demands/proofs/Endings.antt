@@ -41,7 +41,7 @@ use Rattle.demands.specs.Calm.{Calm, Within, heard, EndsAt}
 use Rattle.demands.proofs.Soundness.{kept-fine}
 use Rattle.demands.proofs.BlindSeen.{telegram-seen}
 use Rattle.demands.proofs.Calm.{Apart, short-within, calm-passes}
-use Rattle.demands.proofs.Waiting.{blind-sound, at-first, motion-then}
+use Rattle.demands.proofs.Waiting.{blind-sound, at-first, motion-then, pauses-then, left, short}
 use Rattle.demands.proofs.Tells.{said, tells, said-none, said-one, tells-same, run-tells}
 
 -- ---- the end of a run
@@ -59,22 +59,17 @@ module _ (tag : ℕ) (run : Run) (b : Blind) (m : Model) (fine : Fine m) (here :
   s : ofBlind.Sound b
   s = blind-sound tag b m fine here
 
-  from-first : Within (untilEnd (b .motion) + b .params .rpt) run m → Within (untilEnd (b .motion) + b .params .rpt - 0) run m
-  from-first w = subst (λ (n : ℕ). Within n run m) (sym (sub-zero (untilEnd (b .motion) + b .params .rpt))) w
+  left-now : Within (untilEnd (b .motion) + b .params .rpt) run m → Apart tag (milliseconds (duration run m) b) (after run m)
+  left-now = left tag run b m fine here order on calm
 
-  short : duration run m < untilEnd (b .motion) → Within (untilEnd (b .motion) + b .params .rpt) run m
-  short h = short-within (untilEnd (b .motion) + b .params .rpt) run m (omega arith)
-
-  -- the blind after the run, apart from its flags
-  left : Within (untilEnd (b .motion) + b .params .rpt) run m → Apart tag (milliseconds (duration run m) b) (after run m)
-  left w =
-      subst (λ (k : ℕ). Apart tag (milliseconds k b) (after run m)) (zero-add (duration run m))
-      (calm-passes tag (untilEnd (b .motion) + b .params .rpt) b (busy-until order b s on) run 0 m (at-first tag b m fine here) calm (from-first w))
+  soon : duration run m < untilEnd (b .motion) → Within (untilEnd (b .motion) + b .params .rpt) run m
+  soon = short tag run b m fine here order on calm
 
   reported : Within (untilEnd (b .motion) + b .params .rpt) run m → heard tag run m ≡ said (report b (milliseconds (duration run m) b) ∷ [])
   unfolding said tells milliseconds
   reported w =
-      run-tells tag b s order on run 0 m (at-first tag b m fine here) calm (from-first w)
+      run-tells tag b s order on run 0 m (at-first tag b m fine here) calm
+      (subst (λ (n : ℕ). Within n run m) (sym (sub-zero (untilEnd (b .motion) + b .params .rpt))) w)
       ∙ ap (λ (k : ℕ). said (report b (milliseconds k b) ∷ [])) (zero-add (duration run m))
 
   -- Any run that is on, of any goal: it ends where its milliseconds lead, after exactly its time.
@@ -83,27 +78,28 @@ module _ (tag : ℕ) (run : Run) (b : Blind) (m : Model) (fine : Fine m) (here :
   run-ends =
       record {
         on-before = λ h.
-            ap (Option·map {B = Bool} active) (left (short h) .blind) ∙ ap (λ (x : Bool). some x) (active-until order b s on (duration run m) h);
+            ap (Option·map {B = Bool} active) (left-now (soon h) .blind) ∙ ap (λ (x : Bool). some x) (active-until order b s on (duration run m) h);
         silent-before = λ h.
-            reported (short h)
+            reported (soon h)
             ∙ said-none _ (rw (active-until order b s on 0 (omega arith), active-until order b s on (duration run m) h));
         there = λ h l.
-            ap (Option·map {B = Place} (λ (x : Blind). x .place)) (left l .blind)
+            ap (Option·map {B = Place} (λ (x : Blind). x .place)) (left-now l .blind)
             ∙ ap (λ (k : ℕ). some (milliseconds k b .place)) (split h)
             ∙ ap (λ (x : Blind). some (x .place)) (rests-then order b s on (duration run m - untilEnd (b .motion)));
         rests = λ h l.
-            motion-then tag (milliseconds (duration run m) b) (after run m) (left l)
-            ∙ ap (λ (k : ℕ). some (milliseconds k b .motion)) (split h)
-            ∙ ap (λ (x : Blind). some (x .motion)) (rests-then order b s on (duration run m - untilEnd (b .motion)))
-            ∙ ap (λ (k : ℕ). some (Motion.Off k)) (remains h);
+            motion-then tag (milliseconds (duration run m) b) (after run m) (left-now l)
+            ∙ ap (λ (x : Motion). some x) (pauses-then tag run b m fine here order on calm (duration run m) h);
         told-once = λ h l.
             reported l
-            ∙ ap₂ (λ (x y : Bool). said (cond (x && not y) (told (milliseconds (duration run m) b .params) (milliseconds (duration run m) b .place)) noReport ∷ []))
+            ∙ ap₂ (λ (x y : Bool). said (cond (x && not y) (told (now .params) (now .place)) noReport ∷ []))
             (active-until order b s on 0 (takes-time b order s on)) (over-then order b s on (duration run m) h)
             ∙ ap (λ (n : ℕ). said (n ∷ [])) (tells-same tag b s order on (duration run m) h)
             ∙ said-one _ most;
       }
     where
+      now : Blind
+      now = milliseconds (duration run m) b
+
       most : told (b .params) (milliseconds (untilEnd (b .motion)) b .place) < 512
       most =
           let sound : ofBlind.Sound (milliseconds (untilEnd (b .motion)) b) = milliseconds-sound (untilEnd (b .motion)) b s in
@@ -112,10 +108,6 @@ module _ (tag : ℕ) (run : Run) (b : Blind) (m : Model) (fine : Fine m) (here :
 
       split : untilEnd (b .motion) ≤ duration run m → duration run m ≡ untilEnd (b .motion) + (duration run m - untilEnd (b .motion))
       split h = omega arith
-
-      remains : untilEnd (b .motion) ≤ duration run m
-          → b .params .rpt - (duration run m - untilEnd (b .motion)) ≡ untilEnd (b .motion) + b .params .rpt - duration run m
-      remains h = omega arith
 
   -- A full run ends at its end, valid.
   pub full-run-ends : order .goal ≡ Goal.Full → EndsAt (endOf (order .direction) (b .params)) tag b run m
@@ -146,8 +138,8 @@ module _ (tag address v : ℕ) (b : Blind) (m : Model) (cells : Cells) (fine : F
   unfolding position active
   run-to-ends above below free known c there on run calm =
       let is : heeded (Input.Command (Command.Position v)) b ≡ c = Option·some-injective _ c (sym aims ∙ there) in
-      let reaches : Reaches (withPosition (target v (b .params)) (b .place)) c =
-      subst (Reaches (withPosition (target v (b .params)) (b .place))) is (ofOne.run-to-ends v b above below free known (blind-sound tag b m fine here)) in
+      let place = withPosition (target v (b .params)) (b .place) in
+      let reaches : Reaches place c = subst (Reaches place) is (ofOne.run-to-ends v b above below free known (blind-sound tag b m fine here)) in
       let (order, engaged) = engaged-in (c .motion) on in
       subst (λ (place : Place). EndsAt place tag c run (does (telegram address v) m cells .leaves)) (reaches-then _ c reaches)
       (run-ends tag run c (does (telegram address v) m cells .leaves) (kept-fine (telegram address v) m cells fine) there order engaged calm)

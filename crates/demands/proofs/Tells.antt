@@ -46,7 +46,8 @@ unfolding said kept
 said-append [] ys = refl
 said-append (x ∷ xs) ys = go (tells x) (said-append xs ys)
   where
-    go : (t : Bool) → said (xs ++ ys) ≡ said xs ++ said ys → cond t (x ∷ said (xs ++ ys)) (said (xs ++ ys)) ≡ cond t (x ∷ said xs) (said xs) ++ said ys
+    go : (t : Bool) → said (xs ++ ys) ≡ said xs ++ said ys
+        → cond t (x ∷ said (xs ++ ys)) (said (xs ++ ys)) ≡ cond t (x ∷ said xs) (said xs) ++ said ys
     go true e = ap (λ (l : List ℕ). x ∷ l) e
     go false e = e
 
@@ -119,7 +120,8 @@ module _ (tag : ℕ) (b : Blind) (m : Model) (cells : Cells) (a : Apart tag b m)
 
 module _ (tag : ℕ) (b : Blind) (s : ofBlind.Sound b) (order : ofRuns.Run) (on : Engaged order (b .motion)) where
   -- from its end on a blind tells one and the same
-  pub tells-same : (k : ℕ) → untilEnd (b .motion) ≤ k → told (milliseconds k b .params) (milliseconds k b .place) ≡ told (b .params) (milliseconds (untilEnd (b .motion)) b .place)
+  pub tells-same : (k : ℕ) → untilEnd (b .motion) ≤ k
+      → told (milliseconds k b .params) (milliseconds k b .place) ≡ told (b .params) (milliseconds (untilEnd (b .motion)) b .place)
   tells-same k h =
       let split : k ≡ untilEnd (b .motion) + (k - untilEnd (b .motion)) = omega arith in
       ap (λ (j : ℕ). told (milliseconds j b .params) (milliseconds j b .place)) split
@@ -137,8 +139,7 @@ module _ (tag : ℕ) (b : Blind) (s : ofBlind.Sound b) (order : ofRuns.Run) (on 
       let then-on : active (milliseconds u b) ≡ true = active-until order b s on u low in
       let first-on : active (milliseconds t b) ≡ true = active-until order b s on t (omega arith) in
       ap (λ (xs : List ℕ). xs ++ said (report (milliseconds u b) (milliseconds v b) ∷ [])) (said-none _ (rw (then-on, first-on)))
-      ∙ ap (λ (x : Bool). said (cond (x && not (active (milliseconds v b))) (told (milliseconds v b .params) (milliseconds v b .place)) noReport ∷ []))
-      (then-on ∙ sym first-on))
+      ∙ ap (λ (x : Bool). said (cond (x && not (active last)) (told (last .params) (last .place)) noReport ∷ [])) (then-on ∙ sym first-on))
       (λ high.
       let then-off : active (milliseconds u b) ≡ false = over-then order b s on u high in
       let last-off : active (milliseconds v b) ≡ false = over-then order b s on v (omega arith) in
@@ -147,6 +148,9 @@ module _ (tag : ℕ) (b : Blind) (s : ofBlind.Sound b) (order : ofRuns.Run) (on 
       ∙ ap₂ (λ (x : Bool) (n : ℕ). said (cond (active (milliseconds t b) && not x) n noReport ∷ []))
       (then-off ∙ sym last-off) (tells-same u high ∙ sym (tells-same v (omega arith))))
     where
+      last : Blind
+      last = milliseconds v b
+
       nothing-more : (xs : List ℕ) → xs ++ [] ≡ xs
       nothing-more [] = refl
       nothing-more (x ∷ xs) = ap (λ (l : List ℕ). x ∷ l) (nothing-more xs)
