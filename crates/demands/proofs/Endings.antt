@@ -27,7 +27,7 @@ use Rattle.values.specs.Telegrams.{commandOf, inputOf}
 use Rattle.rules.specs.Rules.{heeded}
 use Rattle.conduct.specs.Ends.{Engaged, waits, runs, untilEnd, Reaches}
 use Rattle.conduct.proofs.SoundMotions.{milliseconds-sound}
-use Rattle.conduct.proofs.Phases.{engaged-in, stood-params, full-place, rests-then, active-until, over-then, busy-until, reaches-then}
+use Rattle.conduct.proofs.Phases.{engaged-in, stood-params, full-place, rests-then, active-until, over-then, reaches-then}
 use Rattle.conduct.proofs.Arrivals as ofOne
 use Rattle.link.specs.declared.Link.{Link}
 use Rattle.panel.specs.Panel.{Model}
@@ -40,7 +40,7 @@ use Rattle.demands.specs.Runs.{Run, Each, after, duration}
 use Rattle.demands.specs.Calm.{Calm, Within, heard, EndsAt}
 use Rattle.demands.proofs.Soundness.{kept-fine}
 use Rattle.demands.proofs.BlindSeen.{telegram-seen}
-use Rattle.demands.proofs.Calm.{Apart, short-within, calm-passes}
+use Rattle.demands.proofs.Calm.{Apart}
 use Rattle.demands.proofs.Waiting.{blind-sound, at-first, motion-then, pauses-then, left, short}
 use Rattle.demands.proofs.Tells.{said, tells, said-none, said-one, tells-same, run-tells}
 

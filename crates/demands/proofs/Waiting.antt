@@ -50,7 +50,8 @@ module _ (tag : ℕ) (run : Run) (b : Blind) (m : Model) (fine : Fine m) (here :
       → motorIn (trace tag run m) k ≡ motorAt (milliseconds k b .motion)
   unfolding motorOf
   found k long h =
-      calm-trace tag (untilEnd (b .motion) + b .params .rpt) b (busy-until order b s on) run 0 m (at-first tag b m fine here) calm k long (omega arith)
+      calm-trace tag (untilEnd (b .motion) + b .params .rpt) b (busy-until order b s on) run 0 m (at-first tag b m fine here) calm k long
+      (omega arith)
       ∙ ap (λ (j : ℕ). motorAt (milliseconds j b .motion)) (zero-add k)
 
   -- what it does in the pause
