@@ -8,3 +8,4 @@ pub mod Owed
 pub mod Pause
 pub mod Undisturbed
 pub mod Arrivals
+pub mod Phases

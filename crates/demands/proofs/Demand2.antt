@@ -70,7 +70,7 @@ one-step : (tag : ℕ) (m : Model) (b : Blind) → blindAt tag m ≡ some b → 
 unfolding milliseconds
 one-step tag m b e = step-blind 1 tag m b e
 
-moments-seen : (tag dt : ℕ) (m : Model) (b : Blind) → Sound m → blindAt tag m ≡ some b → moments tag dt m ≡ momentsIn dt b
+pub moments-seen : (tag dt : ℕ) (m : Model) (b : Blind) → Sound m → blindAt tag m ≡ some b → moments tag dt m ≡ momentsIn dt b
 unfolding moments momentsIn
 moments-seen tag zero m b s e = refl
 moments-seen tag (suc dt) m b s e =

@@ -14,3 +14,6 @@ pub mod Ruling
 pub mod Cases
 pub mod AfreshOnly
 pub mod Chain
+pub mod Calm
+pub mod Tells
+pub mod Endings

@@ -14,12 +14,10 @@ use Rattle.conduct.specs.Pauses.{opposite, offs}
 use Rattle.conduct.specs.Undisturbed.{Idle}
 use Rattle.link.specs.declared.Link.{Link}
 use Rattle.panel.specs.Panel.{Model}
-use Rattle.telegrams.specs.Locality.{reached}
 use Rattle.time_steps.specs.TimeSteps.{afterStep}
 use Rattle.seats.specs.Untouched.{blindAt}
-use Rattle.demands.specs.Calls.{Call, telegram, timeStep, strip, install, removeBlind, writeParams, addLink, removeLink, spliceIn, spliceOut, inventory}
+use Rattle.demands.specs.Calls.{removeBlind}
 use Rattle.demands.specs.Runs.{Turn, Run, gives, lasting, motorSeen}
-use Rattle.demands.specs.Demand3.{Spares}
 
 -- ---- "between opposite motions the motor is off for at least the pause time"
 
@@ -68,23 +66,6 @@ Paused list =
 abbrev pub Unheeded : ℕ → List Link → Blind → Type 0
 Unheeded value [] b = Unit {0}
 Unheeded value (link ∷ links) b = Idle (inputOf (link .kind) value) b × Unheeded value links (heeded (inputOf (link .kind) value) b)
-
--- A call that does not disturb the blind: a time step, a telegram that does not, or one that spares it.
-abbrev pub QuietCall : ℕ → Call → Model → Type 0
-QuietCall tag (telegram address value) m = (b : Blind) → blindAt tag m ≡ some b → Unheeded value (reached tag address m) b
-QuietCall tag (timeStep dt) m = Unit {0}
-QuietCall tag strip m = Unit {0}
-QuietCall tag (install other terminal asked) m = Spares tag (install other terminal asked)
-QuietCall tag (removeBlind other) m = Spares tag (removeBlind other)
-QuietCall tag (writeParams other asked) m = Spares tag (writeParams other asked)
-QuietCall tag (addLink link) m = Spares tag (addLink link)
-QuietCall tag (removeLink link) m = Spares tag (removeLink link)
-QuietCall tag (spliceIn t n) m = Unit {0}
-QuietCall tag (spliceOut t n) m = Unit {0}
-QuietCall tag inventory m = Unit {0}
-
-abbrev pub Quiet : ℕ → Turn → Model → Type 0
-Quiet tag turn m = QuietCall tag (turn .call) m
 
 -- ---- "weaker commands are dropped"
 

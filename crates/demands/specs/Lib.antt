@@ -7,3 +7,4 @@ pub mod Whole
 pub mod Cases
 pub mod Afresh
 pub mod Chain
+pub mod Calm
