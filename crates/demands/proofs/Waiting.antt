@@ -13,12 +13,12 @@ use Rattle.blind.specs.declared.Motion.{Motion}
 use Rattle.blind.specs.declared.Blind.{Blind}
 use Rattle.blind.specs.Fields.{withFlags, withMotion}
 use Rattle.blind.specs.Orders.{started}
-use Rattle.blind.specs.Millisecond.{milliseconds}
-use Rattle.blind.proofs.Cutting.{cut}
+use Rattle.milliseconds.specs.Milliseconds.{milliseconds}
+use Rattle.milliseconds.proofs.Cutting.{cut}
 use Rattle.outputs.specs.Reports.{command, motorAt, motorOf}
 use Rattle.rules.specs.Rules.{heeded}
 use Rattle.rules.specs.Telegrams.{inputOf}
-use Rattle.blind.proofs.AtOnce.{waiting, wait-over}
+use Rattle.milliseconds.proofs.AtOnce.{waiting, wait-over}
 use Rattle.conduct.proofs.Idle.{idle-keeps}
 use Rattle.conduct.proofs.Undisturbed.{milliseconds-flags}
 use Rattle.link.specs.declared.Link.{Link}
