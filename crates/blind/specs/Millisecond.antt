@@ -1,6 +1,6 @@
 -- Document 01, "One millisecond".
 -- Assumes nothing.
-use Prim.Native.Nat.{ℕ, zero, suc, _-_}
+use Prim.Native.Nat.{ℕ, _-_}
 use mathlib.Core.Bool.{cond}
 use lib.Dec.{eqb}
 use Rattle.heights.specs.declared.Direction.{Direction}
@@ -40,8 +40,3 @@ millisecondAt (Motion.Runs run) b = ran run b
 
 unfoldable pub millisecond : Blind → Blind
 millisecond b = millisecondAt (b .motion) b
-
--- "A time step of dt is dt such milliseconds."
-unfoldable pub milliseconds : ℕ → Blind → Blind
-milliseconds zero b = b
-milliseconds (suc dt) b = millisecond (milliseconds dt b)

@@ -1,4 +1,4 @@
-// One blind: what it is made of. Its orders and its milliseconds stand in the modules below, one for each
+// One blind: what it is made of. Its orders and its millisecond stand in the modules below, one for each
 // heading of document 01.
 mod millisecond;
 mod orders;
@@ -7,6 +7,8 @@ use heights::Place;
 use params::Params;
 use runs::Last;
 use runs::Run;
+ghost use mathlib.Core.Path.{_≡_};
+ghost use Rattle.blind.specs.Fields.{withMotion};
 
 pub enum Forced {
     No,
@@ -34,4 +36,12 @@ pub struct Blind {
     pub last: Last,
     pub place: Place,
     pub motion: Motion,
+}
+
+impl Blind {
+    fn with_motion(self, motion: Motion) -> Blind
+        ensures { λ r. ⌜ r ≡ withMotion motion self ⌝ }
+    {
+        Blind { motion, ..self }
+    }
 }

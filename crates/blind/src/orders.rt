@@ -38,19 +38,13 @@ impl Blind {
             Motion::Off(rest) => self.order_off(rest, run),
             Motion::Waits(rest, _) => self.order_off(rest, run),
             Motion::Runs(running) => {
-                let onward = run.goes_on(running.last());
-                if onward {
-                    Blind {
-                        motion: Motion::Runs(run),
-                        ..self
-                    }
+                let next = if run.goes_on(running.last()) {
+                    Motion::Runs(run)
                 } else {
                     let pause = self.params.pause();
-                    Blind {
-                        motion: Motion::Waits(pause, run),
-                        ..self
-                    }
-                }
+                    Motion::Waits(pause, run)
+                };
+                self.with_motion(next)
             }
         }
     }
@@ -59,15 +53,14 @@ impl Blind {
         ensures { λ r. ⌜ r ≡ orderedOff rest run self ⌝ }
     {
         let last = self.last;
-        let waits = run.must_wait(rest, last);
-        if waits {
-            Blind {
+        if run.must_wait(rest, last) {
+            // Written out: by `with_motion` a telegram to many links takes longer.
+            return Blind {
                 motion: Motion::Waits(rest, run),
                 ..self
-            }
-        } else {
-            self.start(run)
+            };
         }
+        self.start(run)
     }
 
     // The last direction changes here and nowhere else: when the motor starts.
@@ -88,10 +81,7 @@ impl Blind {
         let motion = self.motion;
         match motion {
             Motion::Off(_) => self,
-            Motion::Waits(rest, _) => Blind {
-                motion: Motion::Off(rest),
-                ..self
-            },
+            Motion::Waits(rest, _) => self.with_motion(Motion::Off(rest)),
             Motion::Runs(_) => self.motor_off(),
         }
     }
@@ -101,9 +91,6 @@ impl Blind {
         ensures { λ r. ⌜ r ≡ motorOff self ⌝ }
     {
         let whole = self.params.pause();
-        Blind {
-            motion: Motion::Off(whole),
-            ..self
-        }
+        self.with_motion(Motion::Off(whole))
     }
 }

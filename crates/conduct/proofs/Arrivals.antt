@@ -20,8 +20,9 @@ use Rattle.blind.specs.declared.Motion.{Motion}
 use Rattle.blind.specs.declared.Blind.{Blind}
 use Rattle.blind.specs.Fields.{withLast}
 use Rattle.blind.specs.Orders.{started, orderedOff, orderedRunning, orderedAt, ordered, motorOff, stoppedAt, stopped}
-use Rattle.blind.specs.Millisecond.{arrived, milliseconds}
-use Rattle.blind.proofs.AtOnce.{movedBy}
+use Rattle.blind.specs.Millisecond.{arrived}
+use Rattle.milliseconds.specs.Milliseconds.{milliseconds}
+use Rattle.milliseconds.proofs.AtOnce.{movedBy}
 use Rattle.sound_blind.specs.Sound.{Sound}
 use Rattle.inputs.specs.declared.Command.{Command}
 use Rattle.inputs.specs.Inputs.{runTo, towards, aimedBetween, aimed, followed, sapbp, acted}

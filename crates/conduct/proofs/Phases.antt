@@ -19,9 +19,10 @@ use Rattle.blind.specs.declared.Motion.{Motion}
 use Rattle.blind.specs.declared.Blind.{Blind}
 use Rattle.blind.specs.Fields.{withLast, withMotion}
 use Rattle.blind.specs.Orders.{started, motorOff}
-use Rattle.blind.specs.Millisecond.{arrived, millisecond, milliseconds}
-use Rattle.blind.proofs.Cutting.{one-first, cut}
-use Rattle.blind.proofs.AtOnce.{resting, waiting, wait-over, movedBy, running}
+use Rattle.blind.specs.Millisecond.{arrived, millisecond}
+use Rattle.milliseconds.specs.Milliseconds.{milliseconds}
+use Rattle.milliseconds.proofs.Cutting.{one-first, cut}
+use Rattle.milliseconds.proofs.AtOnce.{resting, waiting, wait-over, movedBy, running}
 use Rattle.outputs.specs.Reports.{activeAt, active, busyAt, busy}
 use Rattle.sound_blind.specs.Sound.{SoundMotion, Sound}
 use Rattle.conduct.specs.Courses.{Event, passes, after, duration}

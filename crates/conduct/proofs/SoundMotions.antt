@@ -21,7 +21,8 @@ use Rattle.blind.specs.declared.Motion.{Motion}
 use Rattle.blind.specs.declared.Blind.{Blind}
 use Rattle.blind.specs.Fields.{withFlags, withMotion}
 use Rattle.blind.specs.Orders.{started, orderedOff, orderedRunning, orderedAt, ordered, motorOff, stoppedAt, stopped, freshOf}
-use Rattle.blind.specs.Millisecond.{moved, arrived, ran, waited, millisecondAt, millisecond, milliseconds}
+use Rattle.blind.specs.Millisecond.{moved, arrived, ran, waited, millisecondAt, millisecond}
+use Rattle.milliseconds.specs.Milliseconds.{milliseconds}
 use Rattle.sound_blind.specs.Sound.{SoundRun, Whole, SoundWait, SoundRunning, SoundMotion, Sound, longest}
 use Rattle.sound_blind.proofs.Decides.{last-decides}
 

@@ -20,9 +20,10 @@ use Rattle.blind.specs.declared.Motion.{Motion}
 use Rattle.blind.specs.declared.Blind.{Blind}
 use Rattle.blind.specs.Fields.{withFlags, withLast, withMotion}
 use Rattle.blind.specs.Orders.{started, motorOff}
-use Rattle.blind.specs.Millisecond.{moved, arrived, ran, waited, millisecondAt, millisecond, milliseconds}
-use Rattle.blind.proofs.Cutting.{one-first, cut}
-use Rattle.blind.proofs.AtOnce.{waiting, wait-over, movedBy, running, run-over}
+use Rattle.blind.specs.Millisecond.{moved, arrived, ran, waited, millisecondAt, millisecond}
+use Rattle.milliseconds.specs.Milliseconds.{milliseconds}
+use Rattle.milliseconds.proofs.Cutting.{one-first, cut}
+use Rattle.milliseconds.proofs.AtOnce.{waiting, wait-over, movedBy, running, run-over}
 use Rattle.sound_blind.specs.Sound.{SoundMotion, Sound}
 use Rattle.rules.specs.Rules.{heeded}
 use Rattle.conduct.specs.Courses.{Event, after, duration}

@@ -10,7 +10,7 @@ use borrow.Author.Tests.{eq-eqb, ne-eqb}
 use Rattle.answers.specs.Rules.{Result, carried}
 use Rattle.answers.proofs.Rules.{refused}
 use Rattle.blind.specs.declared.Blind.{Blind}
-use Rattle.blind.specs.Millisecond.{milliseconds}
+use Rattle.milliseconds.specs.Milliseconds.{milliseconds}
 use Rattle.outputs.specs.Reports.{report}
 use Rattle.outputs.specs.Reports.{noReport}
 use Rattle.panel.specs.Panel.{Seat, Model}

@@ -17,8 +17,9 @@ use Rattle.answers.proofs.Rules.{leaves-has}
 use Rattle.blind.specs.declared.Flags.{Flags}
 use Rattle.blind.specs.declared.Blind.{Blind}
 use Rattle.blind.specs.Fields.{withFlags}
-use Rattle.blind.specs.Millisecond.{millisecond, milliseconds}
-use Rattle.blind.proofs.Cutting.{one-first, cut}
+use Rattle.blind.specs.Millisecond.{millisecond}
+use Rattle.milliseconds.specs.Milliseconds.{milliseconds}
+use Rattle.milliseconds.proofs.Cutting.{one-first, cut}
 use Rattle.outputs.specs.Reports.{motorOf, busy}
 use Rattle.rules.specs.Rules.{heeded}
 use Rattle.values.specs.Telegrams.{inputOf}

@@ -14,7 +14,8 @@ use Rattle.params.specs.Parameters.{defaults, within, timesInRange, inRange}
 use Rattle.heights.specs.Heights.{fullTime, bottom, nextPlace, endOf, target, wayTo, part, told}
 use Rattle.runs.specs.Millisecond.{shorter}
 use Rattle.blind.specs.Orders.{started, orderedOff, orderedRunning, orderedAt, ordered, motorOff, stoppedAt, stopped, freshOf}
-use Rattle.blind.specs.Millisecond.{moved, arrived, ran, waited, millisecondAt, millisecond, milliseconds}
+use Rattle.blind.specs.Millisecond.{moved, arrived, ran, waited, millisecondAt, millisecond}
+use Rattle.milliseconds.specs.Milliseconds.{milliseconds}
 use Rattle.outputs.specs.Reports.{motorOf, active, busy, report}
 use Rattle.sound_blind.specs.Sound.{soundWait, soundRunning, soundMotion, sound}
 use Rattle.inputs.specs.Inputs.{mud, ssud, towards, aimedBetween, aimed, followed, sapbp, acted}

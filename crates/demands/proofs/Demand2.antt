@@ -18,7 +18,8 @@ use Rattle.heights.specs.declared.Direction.{Direction}
 use Rattle.runs.specs.Orders.{isLast}
 use Rattle.blind.specs.declared.Motion.{Motion}
 use Rattle.blind.specs.declared.Blind.{Blind}
-use Rattle.blind.specs.Millisecond.{millisecond, milliseconds}
+use Rattle.blind.specs.Millisecond.{millisecond}
+use Rattle.milliseconds.specs.Milliseconds.{milliseconds}
 use Rattle.outputs.specs.Reports.{busyAt, busy}
 use Rattle.sound_blind.specs.Sound as ofBlind
 use Rattle.rules.specs.Rules.{heeded}

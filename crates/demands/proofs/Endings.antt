@@ -17,7 +17,7 @@ use Rattle.runs.specs.declared.Run as ofRuns
 use Rattle.params.specs.declared.Params.{Params}
 use Rattle.blind.specs.declared.Motion.{Motion}
 use Rattle.blind.specs.declared.Blind.{Blind}
-use Rattle.blind.specs.Millisecond.{milliseconds}
+use Rattle.milliseconds.specs.Milliseconds.{milliseconds}
 use Rattle.outputs.specs.Reports.{active, noReport, report}
 use Rattle.sound_blind.specs.Sound as ofBlind
 use Rattle.inputs.specs.declared.Command.{Command}

@@ -8,11 +8,12 @@ use mathlib.Core.List.{List, [], _∷_, _++_}
 use lib.ListN.{length, getD, drop, length-append}
 use Rattle.heights.specs.declared.Direction.{Direction}
 use Rattle.blind.specs.declared.Blind.{Blind}
-use Rattle.blind.specs.Millisecond.{millisecond, milliseconds}
+use Rattle.blind.specs.Millisecond.{millisecond}
+use Rattle.milliseconds.specs.Milliseconds.{milliseconds}
 use Rattle.outputs.specs.Reports.{command, motorOf}
 use Rattle.sound_blind.specs.Sound as ofBlind
 use Rattle.conduct.specs.Pauses.{opposite, offs, off}
-use Rattle.blind.proofs.Cutting.{one-first}
+use Rattle.milliseconds.proofs.Cutting.{one-first}
 use Rattle.conduct.proofs.SoundMotions.{millisecond-sound}
 use Rattle.conduct.proofs.Owed.{owed, millisecond-pays, running-against, running-along, off-while-running}
 use Rattle.demands.specs.Demand2.{Moment, motorsOf, Paused}

@@ -16,7 +16,7 @@ use Rattle.answers.specs.Rules.{Result}
 use Rattle.answers.proofs.Rules.{answer-is}
 use Rattle.tags.specs.Tags.{places}
 use Rattle.blind.specs.declared.Blind.{Blind}
-use Rattle.blind.specs.Millisecond.{milliseconds}
+use Rattle.milliseconds.specs.Milliseconds.{milliseconds}
 use Rattle.outputs.specs.Reports.{report}
 use Rattle.link.specs.declared.Link.{Link}
 use Rattle.panel.specs.Panel.{Model}

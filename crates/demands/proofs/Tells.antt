@@ -15,8 +15,8 @@ use Rattle.params.specs.declared.Params.{Params}
 use Rattle.blind.specs.declared.Flags.{Flags}
 use Rattle.blind.specs.declared.Blind.{Blind}
 use Rattle.blind.specs.Fields.{withFlags}
-use Rattle.blind.specs.Millisecond.{milliseconds}
-use Rattle.blind.proofs.Cutting.{cut}
+use Rattle.milliseconds.specs.Milliseconds.{milliseconds}
+use Rattle.milliseconds.proofs.Cutting.{cut}
 use Rattle.outputs.specs.Reports.{active, noReport, report}
 use Rattle.outputs.proofs.Reports.{report-same}
 use Rattle.sound_blind.specs.Sound as ofBlind

@@ -11,7 +11,7 @@ use Rattle.runs.specs.declared.Run as ofRuns
 use Rattle.runs.specs.Millisecond.{shorter}
 use Rattle.blind.specs.declared.Motion.{Motion}
 use Rattle.blind.specs.declared.Blind.{Blind}
-use Rattle.blind.specs.Millisecond.{milliseconds}
+use Rattle.milliseconds.specs.Milliseconds.{milliseconds}
 use Rattle.outputs.specs.Reports.{motorAt, motorOf}
 use Rattle.sound_blind.specs.Sound as ofBlind
 use Rattle.conduct.specs.Ends.{Engaged, waits, runs, untilEnd}

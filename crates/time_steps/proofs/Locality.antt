@@ -6,7 +6,7 @@ use mathlib.Core.Option.{some, Option·map}
 use lib.ListN.{getD}
 use Rattle.answers.specs.Rules.{Result, carried}
 use Rattle.answers.proofs.Rules.{leaves-has, done}
-use Rattle.blind.specs.Millisecond.{milliseconds}
+use Rattle.milliseconds.specs.Milliseconds.{milliseconds}
 use Rattle.outputs.specs.Reports.{noReport}
 use Rattle.panel.specs.Panel.{Seat, Model, eachSeat, onBlind}
 use Rattle.panel.specs.Sound.{Sound}

@@ -3,7 +3,7 @@
 use Prim.Native.Nat.{ℕ}
 use mathlib.Core.Path.{_≡_, refl}
 use Rattle.answers.specs.Answers.{refusal}
-use Rattle.blind.specs.Millisecond.{milliseconds}
+use Rattle.milliseconds.specs.Milliseconds.{milliseconds}
 use Rattle.conduct.proofs.SoundMotions.{milliseconds-sound}
 use Rattle.panel.specs.Panel.{Model, onBlind}
 use Rattle.panel.specs.Sound.{Sound}

@@ -12,7 +12,7 @@ use Rattle.laws.specs.Fills.{filled}
 use Rattle.laws.proofs.Fills.{filled-none, filled-at, filled-ahead, filled-more, filled-length}
 use Rattle.tags.specs.Tags.{places, tagsOf}
 use Rattle.blind.specs.declared.Blind.{Blind}
-use Rattle.blind.specs.Millisecond.{milliseconds}
+use Rattle.milliseconds.specs.Milliseconds.{milliseconds}
 use Rattle.outputs.specs.Reports.{report}
 use Rattle.sound_blind.specs.Sound as ofBlind
 use Rattle.conduct.proofs.SoundMotions.{milliseconds-sound}

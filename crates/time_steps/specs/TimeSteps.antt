@@ -4,7 +4,7 @@ use Prim.Native.Nat.{ℕ}
 use mathlib.Core.List.{[]}
 use lib.Dec.{ltb}
 use Rattle.tags.specs.Tags.{places}
-use Rattle.blind.specs.Millisecond.{milliseconds}
+use Rattle.milliseconds.specs.Milliseconds.{milliseconds}
 use Rattle.panel.specs.Panel.{Model, eachSeat, onBlind}
 use Rattle.panel.specs.Calls.{row, lentChecks, CallRule}
 use Rattle.panel.specs.Reports.{reports}

@@ -4,13 +4,14 @@ use answers::NOT_SOUND;
 use answers::OUT_OF_RANGE;
 use answers::WRONG_CELLS;
 use blind::Blind;
+use milliseconds::milliseconds;
 use outputs::cell;
 use panel::Panel;
 use panel::calls::Answered;
 use tags::CELLS;
 ghost use mathlib.Core.Path.{_≡_};
 ghost use mathlib.Core.Bool.{cond};
-ghost use Rattle.blind.specs.Millisecond.{milliseconds};
+ghost use Rattle.milliseconds.specs.Milliseconds.{milliseconds};
 ghost use Rattle.panel.specs.Calls.{row, Does};
 ghost use Rattle.time_steps.specs.TimeSteps.{stepRule};
 
@@ -60,5 +61,9 @@ pub fn time_step(mut panel: Panel, dt: u64, cells: &mut [u16]) -> Answered
 fn later(there: bool, blind: Blind, dt: u64) -> Blind
     ensures { λ r. ⌜ r ≡ cond there (milliseconds dt blind) blind ⌝ }
 {
-    if there { blind.milliseconds(dt) } else { blind }
+    if there {
+        milliseconds(blind, dt)
+    } else {
+        blind
+    }
 }

@@ -10,7 +10,8 @@ unfolding millisecond millisecondAt
 millisecond-spec =
     tie.close
     (tie.spec
-    (λ c. search needs) (λ c κs. search needs) (λ c. search needs) (λ c κs. search needs) (λ c. search needs) (λ c κs. search needs)
-    (λ c. simp (c .before .before .before .left .ensures, c .before .before .before .before .before .motion .given .1))
+    (λ c. search needs) (λ c κs. search needs) (λ c κs. search needs)
+    (λ c. search needs) (λ c κs. search needs) (λ c. search needs) (λ c κs. search needs)
+    (λ c. simp (c .with-motion .ensures, c .before .left .ensures, c .before .before .before .motion .given .1))
     (λ c. simp (c .wait .ensures, c .before .before .motion2 .given .1))
     (λ c. simp (c .run .ensures, c .before .before .motion3 .given .1)))

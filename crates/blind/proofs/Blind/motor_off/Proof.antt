@@ -1,4 +1,4 @@
--- `Blind::motor_off`: the value that is made is `motorOff`, with the pause from `pause`.
+-- `Blind::motor_off`: the motion that is set is that of `motorOff`, with the pause from `pause`.
 -- Assumes nothing.
 use borrow.Author.Needs.{needs}
 use Rattle.blind.specs.Orders.{motorOff}
@@ -10,5 +10,5 @@ unfolding motorOff
 motor-off-spec =
     tie.close
     (tie.spec
-    (λ c κs. search needs)
-    (λ c. simp (c .before .before .before .pause .ensures)))
+    (λ c κs. search needs) (λ c κs. search needs)
+    (λ c. simp (c .with-motion .ensures, c .before .pause .ensures)))

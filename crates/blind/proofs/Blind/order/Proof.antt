@@ -1,8 +1,9 @@
 -- `Blind::order`: the motion that was matched picks the case of `orderedAt`; while the motor runs, whether the run goes on in
 -- the running direction picks the side of `orderedRunning`.
 -- Assumes nothing.
-use mathlib.Core.Path.{_≡_, ap, _∙_}
+use mathlib.Core.Path.{_≡_, _∙_}
 use mathlib.Core.Bool.{Bool, cond}
+use mathlib.Core.Logic.{⊎-elim}
 use borrow.Author.Needs.{needs}
 use Rattle.runs.specs.declared.Last.{Last}
 use Rattle.runs.specs.declared.Run.{Run}
@@ -20,23 +21,16 @@ running : (now run : Run) (last : Last) (onward : Bool) (b : Blind) → b .motio
     → last ≡ lastOf (now .direction) → onward ≡ isLast (run .direction) last
     → ordered run b ≡ cond onward (withMotion (Motion.Runs run) b) (withMotion (Motion.Waits (b .params .rpt) run) b)
 unfolding ordered orderedAt orderedRunning
-running now run last onward b runs e goes =
-    ap (λ (m : Motion). orderedAt m run b) runs
-    ∙ ap (λ (t : Bool). cond t (withMotion (Motion.Runs run) b) (withMotion (Motion.Waits (b .params .rpt) run) b)) (goes-same (now .direction) (run .direction) last onward e goes)
+running now run last onward b runs e goes = rw (runs, goes-same (now .direction) (run .direction) last onward e goes)
 
 returns-3 : tie.Need-returns-3
 returns-3 c =
-    let asked = c .before .before .before .before in
+    let asked = c .before .before in
     let first = asked .before .before .before in
     let a = first .before .before .args in
-    simp (running _ (a .run) _ _ (a .self) (first .motion3 .given .1) (asked .before .last .ensures) (asked .goes-on .ensures), c .before .before .before .if1 .taken)
-
-returns-4 : tie.Need-returns-4
-returns-4 c =
-    let asked = c .before .before .before .before .before in
-    let first = asked .before .before .before in
-    let a = first .before .before .args in
-    simp (running _ (a .run) _ _ (a .self) (first .motion3 .given .1) (asked .before .last .ensures) (asked .goes-on .ensures), c .before .before .before .before .if1 .left, c .before .before .before .pause .ensures)
+    let how = running _ (a .run) _ _ (a .self) (first .motion3 .given .1) (asked .before .last .ensures) (asked .goes-on .ensures) in
+    c .with-motion .ensures
+    ∙ ⊎-elim (λ w. simp (w .1, how, w .0 .taken)) (λ w. simp (w .2, w .1 .ensures, how, w .0 .left)) (c .before .if1 .came)
 
 pub order-spec : {M : Type 1} → statement M
 unfolding ordered orderedAt
@@ -44,8 +38,7 @@ order-spec =
     tie.close
     (tie.spec
     (λ c. search needs) (λ c κs. search needs) (λ c. search needs) (λ c κs. search needs)
-    (λ c. search needs) (λ c κs. search needs) (λ c κs. search needs) (λ c κs. search needs)
+    (λ c. search needs) (λ c κs. search needs) (λ c κs. search needs) (λ c κs. search needs) (λ c κs. search needs)
     (λ c. simp (c .order-off .ensures, c .before .before .motion .given .1))
     (λ c. simp (c .order-off2 .ensures, c .before .before .motion2 .given .1))
-    returns-3
-    returns-4)
+    returns-3)

@@ -10,6 +10,7 @@ unfolding orderedOff
 order-off-spec =
     tie.close
     (tie.spec
-    (λ c κs. search needs) (λ c κs. search needs)
+    (λ c κs. search needs)
     (λ c. simp (c .before .before .before .if1 .taken, ← c .before .before .before .before .must-wait .ensures))
+    (λ c κs. search needs)
     (λ c. simp (c .start .ensures, c .before .if1 .left, ← c .before .before .must-wait .ensures)))

@@ -1,6 +1,7 @@
 -- `Blind::run`: whether the length is used up picks the side of the choice in `ran`; the rest is what the callees promise.
 -- Assumes nothing.
 use borrow.Author.Needs.{needs}
+use borrow.Author.Tests.{eq-eqb, ne-eqb}
 use Rattle.runs.specs.Millisecond.{shorter}
 use Rattle.blind.specs.Millisecond.{ran, arrived}
 use Rattle.blind.proofs.Blind.run.Statement.{statement}
@@ -12,5 +13,11 @@ run-spec =
     tie.close
     (tie.spec
     (λ c κs. search needs) (λ c κs. search needs) (λ c κs. search needs) (λ c κs. search needs)
-    (λ c. simp (c .before .before .arrived-at .ensures, c .before .before .before .motor-off .ensures, c .before .before .before .before .if1 .taken, ← c .before .before .before .before .before .before .left .ensures, ← c .before .before .before .before .before .before .before .moved .ensures))
-    (λ c. simp (c .before .before .before .if1 .left, ← c .before .before .before .before .before .left .ensures, ← c .before .before .before .before .before .before .moved .ensures)))
+    (λ c.
+    let over = c .before .before in
+    let past = over .before .before in
+    simp (c .arrived-at .ensures, c .before .motor-off .ensures, eq-eqb _ _ (over .if1 .taken), ← past .left .ensures, ← past .before .moved .ensures))
+    (λ c κs. search needs)
+    (λ c.
+    let past = c .before .before .before in
+    simp (c .with-motion .ensures, ne-eqb _ _ (c .before .if1 .left), ← past .left .ensures, ← past .before .moved .ensures)))

@@ -10,7 +10,7 @@ unfolding stopped stoppedAt
 stop-spec =
     tie.close
     (tie.spec
-    (λ c. search needs) (λ c. search needs) (λ c. search needs) (λ c κs. search needs)
+    (λ c. search needs) (λ c. search needs) (λ c κs. search needs) (λ c. search needs) (λ c κs. search needs)
     (λ c. simp (c .enum-told .given .1))
-    (λ c. simp (c .before .before .before .before .motion .given .1))
+    (λ c. simp (c .with-motion .ensures, c .before .before .motion .given .1))
     (λ c. simp (c .motor-off .ensures, c .before .enum-told2 .given .1)))

@@ -5,16 +5,17 @@ use mathlib.Core.Path.{_≡_, refl, ap, _∙_}
 use native.Mathlib.Nat.{le-antisymm}
 use native.Mathlib.Numerals.{add-one}
 use borrow.Author.Needs.{needs}
-use Rattle.blind.specs.Millisecond.{millisecond, milliseconds}
+use Rattle.blind.specs.Millisecond.{millisecond}
+use Rattle.milliseconds.specs.Milliseconds.{milliseconds}
 use Rattle.blind.specs.declared.Blind.{Blind}
-use Rattle.blind.proofs.Blind.one_by_one.Statement.{statement}
-use Rattle.blind.proofs.Blind.one_by_one.Tie as tie
+use Rattle.milliseconds.proofs.one_by_one.Statement.{statement}
+use Rattle.milliseconds.proofs.one_by_one.Tie as tie
 
 abbrev Inv-loop : tie.InvT-loop
-Inv-loop dt blind₀ counter₀ blind counter = (counter ≤ dt) × (blind ≡ milliseconds counter blind₀)
+Inv-loop blind₀ dt counter₀ blind counter = (counter ≤ dt) × (blind ≡ milliseconds counter blind₀)
 
 abbrev μ-loop : tie.MeasureT-loop
-μ-loop dt blind₀ counter₀ blind counter = dt - counter
+μ-loop blind₀ dt counter₀ blind counter = dt - counter
 
 -- one turn
 once-more : (i : ℕ) (b₀ b b′ : Blind) → b ≡ milliseconds i b₀ → b′ ≡ millisecond b → b′ ≡ milliseconds (i + 1) b₀

@@ -3,8 +3,9 @@
 use Prim.Native.Nat.{ℕ, zero, suc, _+_}
 use native.Mathlib.Nat.{add-zero, add-suc}
 use mathlib.Core.Path.{_≡_, refl, ap}
 use Rattle.blind.specs.declared.Blind.{Blind}
-use Rattle.blind.specs.Millisecond.{millisecond, milliseconds}
+use Rattle.blind.specs.Millisecond.{millisecond}
+use Rattle.milliseconds.specs.Milliseconds.{milliseconds}
 
 -- dt milliseconds and one more: the one may come first
 pub one-first : (k : ℕ) (b : Blind) → milliseconds k (millisecond b) ≡ milliseconds (suc k) b

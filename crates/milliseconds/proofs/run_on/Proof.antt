@@ -8,13 +8,13 @@ use Rattle.heights.specs.declared.Place.{Place}
 use Rattle.heights.specs.Heights.{placeAfter}
 use Rattle.runs.specs.declared.Run.{Run}
 use Rattle.runs.specs.Millisecond.{shorter}
 use Rattle.blind.specs.declared.Motion.{Motion}
 use Rattle.blind.specs.declared.Blind.{Blind}
 use Rattle.blind.specs.Fields.{withPlace, withMotion}
-use Rattle.blind.specs.Millisecond.{milliseconds}
-use Rattle.blind.proofs.AtOnce.{running-on}
-use Rattle.blind.proofs.Blind.run_on.Statement.{statement}
-use Rattle.blind.proofs.Blind.run_on.Tie as tie
+use Rattle.milliseconds.specs.Milliseconds.{milliseconds}
+use Rattle.milliseconds.proofs.AtOnce.{running-on}
+use Rattle.milliseconds.proofs.run_on.Statement.{statement}
+use Rattle.milliseconds.proofs.run_on.Tie as tie
 
 -- what is worked on, and the rest of the time, are the whole time
 whole : (dt k : ℕ) (run : Run) (b : Blind) (place : Place) → b .motion ≡ Motion.Runs run → k ≡ min dt (run .length - 1)
@@ -35,7 +35,7 @@ returns c =
     let moved = c .before .before .before .before in
     let first = moved .before .before in
     none-left _ _ (c .if1 .taken)
-    ∙ whole (first .args .dt) _ (first .args .run) (first .args .self) _ (first .pre) (moved .before .before-last .ensures) (moved .after .ensures)
+    ∙ whole (first .args .dt) _ (first .args .run) (first .args .blind) _ (first .pre) (moved .before .before-last .ensures) (moved .after .ensures)
 
 returns-2 : tie.Need-returns-2
 unfolding shorter
@@ -43,7 +43,7 @@ returns-2 c =
     let moved = c .before .before .before .before .before in
     let first = moved .before .before in
     c .one-by-one .ensures
-    ∙ whole (first .args .dt) _ (first .args .run) (first .args .self) _ (first .pre) (moved .before .before-last .ensures) (moved .after .ensures)
+    ∙ whole (first .args .dt) _ (first .args .run) (first .args .blind) _ (first .pre) (moved .before .before-last .ensures) (moved .after .ensures)
 
 pub run-on-spec : {M : Type 1} → statement M
 run-on-spec =

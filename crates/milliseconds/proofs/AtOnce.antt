@@ -11,12 +11,13 @@ use Rattle.heights.specs.declared.Direction.{Direction}
 use Rattle.heights.specs.Heights.{placeAfter}
 use Rattle.runs.specs.declared.Run.{Run}
 use Rattle.runs.specs.Millisecond.{shorter}
 use Rattle.blind.specs.declared.Motion.{Motion}
 use Rattle.blind.specs.declared.Blind.{Blind}
 use Rattle.blind.specs.Fields.{withPlace, withMotion}
 use Rattle.blind.specs.Orders.{started, motorOff}
-use Rattle.blind.specs.Millisecond.{moved, arrived, ran, waited, millisecondAt, millisecond, milliseconds}
-use Rattle.blind.proofs.Cutting.{cut}
+use Rattle.blind.specs.Millisecond.{moved, arrived, ran, waited, millisecondAt, millisecond}
+use Rattle.milliseconds.specs.Milliseconds.{milliseconds}
+use Rattle.milliseconds.proofs.Cutting.{cut}
 
 -- ---- at rest
 
