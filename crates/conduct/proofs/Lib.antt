@@ -8,3 +8,6 @@ pub mod Owed
 pub mod Pause
 pub mod Undisturbed
 pub mod Arrivals
+pub mod Duties
+pub mod Obeys
+pub mod Weaker
