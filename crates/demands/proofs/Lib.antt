@@ -12,3 +12,6 @@ pub mod Demand2
 pub mod Waiting
 pub mod Ruling
 pub mod Cases
+pub mod Changes
+pub mod Heard
+pub mod Obeys
