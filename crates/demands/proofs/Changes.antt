@@ -11,7 +11,6 @@ use lib.Dec.{eqb}
 use Rattle.laws.proofs.Choices.{never-both}
 use Rattle.answers.specs.Rules.{Result}
 use Rattle.answers.proofs.Rules.{refused, leaves-has}
-use Rattle.params.specs.declared.Params.{Params}
 use Rattle.params.specs.Numbers.{paramsOf}
 use Rattle.blind.specs.declared.Blind.{Blind}
 use Rattle.blind.specs.Millisecond.{milliseconds}
@@ -34,7 +33,7 @@ pub data Change (tag : ℕ) (m : Model) (call : Call) (b : Blind) : Blind → Ty
   kept : Change tag m call b b
   heard : (address value : ℕ) → call ≡ telegram address value → Change tag m call b (heardBy value (reached tag address m) b)
   passed : (dt : ℕ) → Change tag m call b (milliseconds dt b)
-  written : (p : Params) → Change tag m call b (rewritten p b)
+  written : (asked : List ℕ) → call ≡ writeParams tag asked → Change tag m call b (rewritten (paramsOf asked) b)
 
 -- the blind of a tag after a call
 pub record Turned (tag : ℕ) (m : Model) (call : Call) (b : Blind) (n : Model) : Type 0 where
@@ -89,7 +88,7 @@ module _ (tag : ℕ) (b : Blind) (m : Model) (cells : Cells) (here : blindAt tag
         blind = reseated-blind tag m (Option·map (seatRewritten (paramsOf asked)) (m .seats tag))
             ∙ ap (λ (o : Option Seat). Option·map {B = Blind} (λ (x : Seat). x .blind) (Option·map (seatRewritten (paramsOf asked)) o)) there
             ∙ ap (λ (x : Blind). some (rewritten (paramsOf asked) x)) is;
-        change = written (paramsOf asked);
+        change = written asked refl;
       })
 
   pub call-turned : Fine m → (call : Call) → Stays tag (record { call = call; cells = cells }) m → Turned tag m call b (does call m cells .leaves)

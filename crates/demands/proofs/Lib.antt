@@ -15,3 +15,4 @@ pub mod Cases
 pub mod Changes
 pub mod Heard
 pub mod Obeys
+pub mod Weaker

@@ -4,9 +4,10 @@
 use Prim.Native.Nat.{ℕ, zero, suc}
 use native.Mathlib.Omega.{arith}
 use mathlib.Core.Path.{_≡_, refl, sym, ap, _∙_, subst}
-use mathlib.Core.Bool.{false}
+use mathlib.Core.Bool.{Bool, true, false, cond}
 use mathlib.Core.List.{List, [], _∷_}
 use mathlib.Core.Option.{some, Option·some-injective}
+use lib.Dec.{eqb}
 use mathlib.Core.Logic.{_⊎_, inl, inr}
 use Rattle.answers.specs.Rules.{Result}
 use Rattle.answers.proofs.Rules.{done}
@@ -26,7 +27,7 @@ use Rattle.conduct.proofs.Obeys.{millisecond-obeys, milliseconds-obeys}
 use Rattle.panel.specs.Panel.{Model}
 use Rattle.panel.specs.Sound.{Sound, Fine}
 use Rattle.panel.specs.Calls.{Cells}
-use Rattle.telegrams.specs.Locality.{reached}
+use Rattle.telegrams.specs.Locality.{reached, heardBy}
 use Rattle.time_steps.specs.TimeSteps.{afterStep}
 use Rattle.time_steps.proofs.Soundness.{step-sound}
 use Rattle.seats.specs.Untouched.{blindAt}
@@ -34,13 +35,14 @@ use Rattle.installs.specs.Installs.{freshSeat, installRule}
 use Rattle.demands.specs.Calls.{Call, telegram, install, does}
 use Rattle.demands.specs.Runs.{Turn, Run, Each, gives, lasting}
 use Rattle.demands.specs.Demand2.{Stays}
-use Rattle.demands.specs.Ruling.{Permits, Obeyed, AtEach, Throughout, Changed, SetFlags, Uncommanded}
+use Rattle.demands.specs.Ruling.{Permits, Obeyed, AtEach, Throughout, Changed, Changing, told, written-anew, SetFlags, Uncommanded, Given}
 use Rattle.demands.proofs.Soundness.{kept-fine}
 use Rattle.demands.proofs.Seats.{reseated-blind}
+use Rattle.demands.proofs.BlindSeen.{telegram-seen}
 use Rattle.demands.proofs.MotorSeen.{motor-seen}
 use Rattle.demands.proofs.Demand2.{one-step}
 use Rattle.demands.proofs.Changes.{Change, kept, heard, passed, written, call-turned}
-use Rattle.demands.proofs.Heard.{heard-obeys, heard-changed, heard-order}
+use Rattle.demands.proofs.Heard.{heard-obeys, heard-given, heard-changed, heard-order}
 
 -- ---- what a call makes of the blind
 
@@ -49,13 +51,13 @@ module _ {tag : ℕ} {m : Model} {call : Call} {b : Blind} where
   change-obeys o kept = o
   change-obeys o (heard address value is) = heard-obeys value (reached tag address m) b o
   change-obeys o (passed dt) = milliseconds-obeys dt b o
-  change-obeys o (written p) = rewritten-obeys p b
+  change-obeys o (written asked is) = rewritten-obeys (paramsOf asked) b
 
   changed-obeying : {b′ : Blind} → (dutyOf b′ ≡ dutyOf b → ⊥) → Change tag m call b b′ → Obeys b′
   changed-obeying h kept = absurd (h refl)
   changed-obeying h (heard address value is) = heard-changed value (reached tag address m) b h
   changed-obeying h (passed dt) = absurd (h (milliseconds-duty dt b))
-  changed-obeying h (written p) = rewritten-obeys p b
+  changed-obeying h (written asked is) = rewritten-obeys (paramsOf asked) b
 
   changed-ordered : {b′ : Blind} → (dutyOf b′ ≡ dutyOf b → ⊥)
       → (isFree (dutyOf b′) ≡ false) ⊎ ((address value : ℕ) → call ≡ telegram address value → SetFlags (reached tag address m))
@@ -64,7 +66,13 @@ module _ {tag : ℕ} {m : Model} {call : Call} {b : Blind} where
   changed-ordered h (inl bound) (heard address value is) = heard-order value (reached tag address m) b (inr h) (inl bound)
   changed-ordered h (inr set) (heard address value is) = heard-order value (reached tag address m) b (inr h) (inr (set address value is))
   changed-ordered h calm (passed dt) = absurd (h (milliseconds-duty dt b))
-  changed-ordered h calm (written p) = rewritten-order p b h
+  changed-ordered h calm (written asked is) = rewritten-order (paramsOf asked) b h
+
+  changing : {b′ : Blind} → (dutyOf b′ ≡ dutyOf b → ⊥) → Change tag m call b b′ → Changing tag call
+  changing h kept = absurd (h refl)
+  changing h (heard address value is) = subst (Changing tag) (sym is) (told address value)
+  changing h (passed dt) = absurd (h (milliseconds-duty dt b))
+  changing h (written asked is) = subst (Changing tag) (sym is) (written-anew asked)
 
 -- ---- the strip
 
@@ -110,17 +118,22 @@ pub never-against : (tag : ℕ) (run : Run) (b : Blind) (m : Model) → Fine m �
     → Throughout (Obeyed tag) run m
 never-against tag [] b m fine here o stay = obeyed tag b m (fine .sound) here o
 never-against tag (turn ∷ run) b m fine here o stay =
-    let t = call-turned tag b m (turn .cells) here fine (turn .call) (stay .0) in
-    ( obeyed tag b m (fine .sound) here o
-    , each-obeyed tag (lasting turn m) b m (fine .sound) here o
-    , never-against tag run (t .now) (gives turn m .leaves) (kept-fine (turn .call) m (turn .cells) fine) (t .blind)
-    (change-obeys o (t .change)) (stay .1) )
+    let t = call-turned tag b m (turn .cells) here fine (turn .call) (stay .0) in (
+      obeyed tag b m (fine .sound) here o,
+      each-obeyed tag (lasting turn m) b m (fine .sound) here o,
+      never-against tag run (t .now) (gives turn m .leaves) (kept-fine (turn .call) m (turn .cells) fine) (t .blind)
+          (change-obeys o (t .change)) (stay .1),
+    )
 
 module _ (tag : ℕ) (m : Model) (fine : Fine m) (turn : Turn) (stays : Stays tag turn m) (b b′ : Blind) (changed : Changed tag turn m b b′) where
   change : Change tag m (turn .call) b b′
   change =
       let t = call-turned tag b m (turn .cells) (changed .here) fine (turn .call) stays in
       subst (Change tag m (turn .call) b) (Option·some-injective (t .now) b′ (sym (t .blind) ∙ changed .now)) (t .change)
+
+  -- Only a telegram or a write of its parameters changes the duty of a blind.
+  pub changed-by : Changing tag (turn .call)
+  changed-by = changing (changed .other) change
 
   -- A call that changes the duty of a blind gives it that duty's order; where the duty is Free now, a command of the same telegram
   -- may already have moved it on.
@@ -135,6 +148,22 @@ module _ (tag : ℕ) (m : Model) (fine : Fine m) (turn : Turn) (stays : Stays ta
   pub from-then-on : (run : Run) → Each (Stays tag) run (gives turn m .leaves) → Throughout (Obeyed tag) run (gives turn m .leaves)
   from-then-on run stay =
       never-against tag run b′ (gives turn m .leaves) (kept-fine (turn .call) m (turn .cells) fine) (changed .now) change-obeyed stay
+
+-- A telegram that changes the duty, whatever its links to the blind say: at one of them the blind gets the order of the duty that it
+-- has in the end, and the links after that one speak to a blind that has it.
+pub order-told : (tag : ℕ) (m : Model) (cells : Cells) → Fine m → (address value : ℕ) (b b′ : Blind)
+    → Changed tag (record { call = telegram address value; cells = cells }) m b b′
+    → (b′ ≡ heardBy value (reached tag address m) b) × Given value (reached tag address m) b
+order-told tag m cells fine address value b b′ changed =
+    go (eqb (does (telegram address value) m cells .answer) 0)
+    (Option·some-injective _ _ (sym (changed .now) ∙ telegram-seen tag b m cells (fine .sound) (changed .here) address value .blind))
+  where
+    new : Blind
+    new = heardBy value (reached tag address m) b
+
+    go : (accepted : Bool) → b′ ≡ cond accepted new b → (b′ ≡ new) × Given value (reached tag address m) b
+    go true e = (e, heard-given value (reached tag address m) b (λ q. changed .other (ap dutyOf e ∙ q)))
+    go false e = absurd (changed .other (ap dutyOf e))
 
 -- A blind that is installed obeys.
 pub installed-obeys : (tag terminal : ℕ) (asked : List ℕ) (m : Model) (cells : Cells) (b : Blind)

@@ -23,7 +23,7 @@ use Rattle.panel.specs.Panel.{Model}
 use Rattle.telegrams.specs.Locality.{reached, heardBy}
 use Rattle.time_steps.specs.TimeSteps.{afterStep}
 use Rattle.seats.specs.Untouched.{blindAt}
-use Rattle.demands.specs.Calls.{telegram}
+use Rattle.demands.specs.Calls.{Call, telegram, writeParams}
 use Rattle.demands.specs.Runs.{Turn, Run, gives, lasting, motorSeen}
 
 -- ---- "the motor never runs against it"
@@ -58,6 +58,11 @@ pub record Changed (tag : ℕ) (turn : Turn) (m : Model) (before after : Blind) 
   pub here : blindAt tag m ≡ some before
   pub now : blindAt tag (gives turn m .leaves) ≡ some after
   pub other : dutyOf after ≡ dutyOf before → ⊥
+
+-- A telegram, or a write of the blind's parameters.
+pub data Changing (tag : ℕ) : Call → Type 0 where
+  told : (address value : ℕ) → Changing tag (telegram address value)
+  written-anew : (asked : List ℕ) → Changing tag (writeParams tag asked)
 
 -- All of some links are of the kinds 0 to 3, which set flags.
 abbrev pub SetFlags : List Link → Type 0
