@@ -20,46 +20,78 @@ use Rattle.conduct.proofs.Duties.{duty-decides}
 use Rattle.conduct.proofs.Obeys.{changed-order, set-order, kept-order, has-obeys, heeded-obeys}
 use Rattle.link.specs.declared.Link.{Link}
 use Rattle.telegrams.specs.Locality.{heardBy}
-use Rattle.demands.specs.Ruling.{SetFlags, Given}
+use Rattle.demands.specs.Ruling.{Shifts, by-this, by-another, SetFlags, Given}
 
 pub heard-obeys : (value : ℕ) (links : List Link) (b : Blind) → Obeys b → Obeys (heardBy value links b)
 unfolding heardBy
 heard-obeys value [] b o = o
 heard-obeys value (link ∷ links) b o = heard-obeys value links _ (heeded-obeys (inputOf (link .kind) value) b o)
 
--- among links that change the duty is one that gives the order of the last duty
-pub heard-given : (value : ℕ) (links : List Link) (b : Blind) → (dutyOf (heardBy value links b) ≡ dutyOf b → ⊥) → Given value links b
+-- a duty that is another one in the end was changed by one of the links
+pub end-shifts : (value : ℕ) (links : List Link) (b : Blind) → (dutyOf (heardBy value links b) ≡ dutyOf b → ⊥) → Shifts value links b
 unfolding heardBy
-heard-given value [] b h = absurd (h refl)
-heard-given value (link ∷ links) b h =
-    go (duty-decides (dutyOf (heeded input b)) (dutyOf (heardBy value links (heeded input b)))) (heard-given value links (heeded input b))
-  where
-    input : Input
-    input = inputOf (link .kind) value
-
-    go : Dec (dutyOf (heeded input b) ≡ dutyOf (heardBy value links (heeded input b)))
-        → ((dutyOf (heardBy value links (heeded input b)) ≡ dutyOf (heeded input b) → ⊥) → Given value links (heeded input b))
-        → Given value (link ∷ links) b
-    go (yes e) later =
-        record { first = link ∷ []; rest = links; all = refl; order = changed-order input b (λ q. h (sym e ∙ q)); duty = e }
-    go (no n) later =
-        let g = later (λ q. n (sym q)) in
-        record { first = link ∷ g .first; rest = g .rest; all = ap (λ (l : List Link). link ∷ l) (g .all); order = g .order; duty = g .duty }
-
-pub heard-changed : (value : ℕ) (links : List Link) (b : Blind) → (dutyOf (heardBy value links b) ≡ dutyOf b → ⊥) → Obeys (heardBy value links b)
-unfolding heardBy
-heard-changed value [] b h = absurd (h refl)
-heard-changed value (link ∷ links) b h =
-    go (duty-decides (dutyOf (heeded input b)) (dutyOf b)) (heard-changed value links (heeded input b))
+end-shifts value [] b h = absurd (h refl)
+end-shifts value (link ∷ links) b h =
+    go (duty-decides (dutyOf (heeded input b)) (dutyOf b)) (end-shifts value links (heeded input b))
   where
     input : Input
     input = inputOf (link .kind) value
 
     go : Dec (dutyOf (heeded input b) ≡ dutyOf b)
-        → ((dutyOf (heardBy value links (heeded input b)) ≡ dutyOf (heeded input b) → ⊥) → Obeys (heardBy value links (heeded input b)))
-        → Obeys (heardBy value links (heeded input b))
-    go (yes e) later = later (λ q. h (q ∙ e))
-    go (no n) later = heard-obeys value links (heeded input b) (has-obeys _ (changed-order input b n))
+        → ((dutyOf (heardBy value links (heeded input b)) ≡ dutyOf (heeded input b) → ⊥) → Shifts value links (heeded input b))
+        → Shifts value (link ∷ links) b
+    go (yes e) later = by-another (later (λ q. h (q ∙ e)))
+    go (no n) later = by-this n
+
+pub shifts-obeys : (value : ℕ) {links : List Link} {b : Blind} → Shifts value links b → Obeys (heardBy value links b)
+unfolding heardBy
+shifts-obeys value (by-this {link} {links} {b} h) = heard-obeys value links _ (has-obeys _ (changed-order (inputOf (link .kind) value) b h))
+shifts-obeys value (by-another s) = shifts-obeys value s
+
+-- ---- among links that change the duty is one that gives the order of the last duty
+
+given-later : {value : ℕ} {link : Link} {links : List Link} {b : Blind} → Given value links (heeded (inputOf (link .kind) value) b)
+    → Given value (link ∷ links) b
+unfolding heardBy
+given-later {link = link} g =
+    record { first = link ∷ g .first; rest = g .rest; all = ap (λ (l : List Link). link ∷ l) (g .all); order = g .order; duty = g .duty }
+
+given-now : {value : ℕ} {link : Link} {links : List Link} {b : Blind} → HasOrder (heeded (inputOf (link .kind) value) b)
+    → ((dutyOf (heardBy value links (heeded (inputOf (link .kind) value) b)) ≡ dutyOf (heeded (inputOf (link .kind) value) b) → ⊥)
+    → Given value links (heeded (inputOf (link .kind) value) b))
+    → Given value (link ∷ links) b
+unfolding heardBy
+given-now {value} {link} {links} {b} o later =
+    go (duty-decides (dutyOf (heeded input b)) (dutyOf (heardBy value links (heeded input b))))
+  where
+    input : Input
+    input = inputOf (link .kind) value
+
+    go : Dec (dutyOf (heeded input b) ≡ dutyOf (heardBy value links (heeded input b))) → Given value (link ∷ links) b
+    go (yes e) = record { first = link ∷ []; rest = links; all = refl; order = o; duty = e }
+    go (no n) = given-later (later (λ q. n (sym q)))
+
+end-given : (value : ℕ) (links : List Link) (b : Blind) → (dutyOf (heardBy value links b) ≡ dutyOf b → ⊥) → Given value links b
+unfolding heardBy
+end-given value [] b h = absurd (h refl)
+end-given value (link ∷ links) b h =
+    go (duty-decides (dutyOf (heeded input b)) (dutyOf b)) (end-given value links (heeded input b))
+  where
+    input : Input
+    input = inputOf (link .kind) value
+
+    go : Dec (dutyOf (heeded input b) ≡ dutyOf b)
+        → ((dutyOf (heardBy value links (heeded input b)) ≡ dutyOf (heeded input b) → ⊥) → Given value links (heeded input b))
+        → Given value (link ∷ links) b
+    go (yes e) later = given-later (later (λ q. h (q ∙ e)))
+    go (no n) later = given-now (changed-order input b n) later
+
+pub shifts-given : (value : ℕ) {links : List Link} {b : Blind} → Shifts value links b → Given value links b
+shifts-given value (by-this {link} {links} {b} h) =
+    given-now (changed-order (inputOf (link .kind) value) b h) (end-given value links (heeded (inputOf (link .kind) value) b))
+shifts-given value (by-another s) = given-later (shifts-given value s)
+
+-- ---- the order in the end
 
 -- kinds 0 to 3 set flags, so a blind that has its order keeps it
 flag-order : (kind value : ℕ) (b : Blind) → kind < mud → HasOrder b → HasOrder (heeded (inputOf kind value) b)
@@ -95,8 +127,12 @@ first-heard value link links b (inl o) (inl bound) (yes e) = go (isFree (dutyOf 
     go true free = inr (λ q. never-both (isFree (dutyOf (heardBy value links (heeded input b)))) (ap isFree (q ∙ e) ∙ free) bound)
     go false ruled = inl (kept-order input b ruled o)
 
+others : {A : Type 0} (link : Link) (links : List Link) → A ⊎ SetFlags (link ∷ links) → A ⊎ SetFlags links
+others link links (inl bound) = inl bound
+others link links (inr set) = inr (set .1)
+
 -- after links that change the duty the blind has the order of the last one, if that is not Free or no link commands
-pub heard-order : (value : ℕ) (links : List Link) (b : Blind) → HasOrder b ⊎ (dutyOf (heardBy value links b) ≡ dutyOf b → ⊥)
+heard-order : (value : ℕ) (links : List Link) (b : Blind) → HasOrder b ⊎ (dutyOf (heardBy value links b) ≡ dutyOf b → ⊥)
     → (isFree (dutyOf (heardBy value links b)) ≡ false) ⊎ SetFlags links → HasOrder (heardBy value links b)
 unfolding heardBy
 heard-order value [] b (inl o) calm = o
@@ -104,8 +140,11 @@ heard-order value [] b (inr h) calm = absurd (h refl)
 heard-order value (link ∷ links) b so-far calm =
     heard-order value links (heeded (inputOf (link .kind) value) b)
     (first-heard value link links b so-far calm (duty-decides (dutyOf (heeded (inputOf (link .kind) value) b)) (dutyOf b)))
-    (others calm)
-  where
-    others : {A : Type 0} → A ⊎ SetFlags (link ∷ links) → A ⊎ SetFlags links
-    others (inl free) = inl free
-    others (inr set) = inr (set .1)
+    (others link links calm)
+
+pub shifts-order : (value : ℕ) {links : List Link} {b : Blind} → Shifts value links b
+    → (isFree (dutyOf (heardBy value links b)) ≡ false) ⊎ SetFlags links → HasOrder (heardBy value links b)
+unfolding heardBy
+shifts-order value (by-this {link} {links} {b} h) calm =
+    heard-order value links (heeded (inputOf (link .kind) value) b) (inl (changed-order (inputOf (link .kind) value) b h)) (others link links calm)
+shifts-order value (by-another {link} {links} s) calm = shifts-order value s (others link links calm)

@@ -4,11 +4,11 @@
 use Prim.Native.Nat.{ℕ, zero, suc}
 use native.Mathlib.Omega.{arith}
 use mathlib.Core.Path.{_≡_, refl, sym, ap, _∙_, subst}
-use mathlib.Core.Bool.{Bool, true, false, cond}
+use mathlib.Core.Bool.{Bool, false, cond}
 use mathlib.Core.List.{List, [], _∷_}
 use mathlib.Core.Option.{some, Option·some-injective}
-use lib.Dec.{eqb}
 use mathlib.Core.Logic.{_⊎_, inl, inr}
+use borrow.Author.Tests.{eq-eqb}
 use Rattle.answers.specs.Rules.{Result}
 use Rattle.answers.proofs.Rules.{done}
 use Rattle.heights.specs.declared.Direction.{Direction}
@@ -35,14 +35,15 @@ use Rattle.installs.specs.Installs.{freshSeat, installRule}
 use Rattle.demands.specs.Calls.{Call, telegram, install, does}
 use Rattle.demands.specs.Runs.{Turn, Run, Each, gives, lasting}
 use Rattle.demands.specs.Demand2.{Stays}
-use Rattle.demands.specs.Ruling.{Permits, Obeyed, AtEach, Throughout, Changed, Changing, told, written-anew, SetFlags, Uncommanded, Given}
+use Rattle.demands.specs.Ruling.{Permits, Obeyed, AtEach, Throughout, Shifts, Alters, in-the-end, on-the-way, Changed}
+use Rattle.demands.specs.Ruling.{Changing, told, written-anew, SetFlags, Uncommanded, Given}
 use Rattle.demands.proofs.Soundness.{kept-fine}
 use Rattle.demands.proofs.Seats.{reseated-blind}
 use Rattle.demands.proofs.BlindSeen.{telegram-seen}
 use Rattle.demands.proofs.MotorSeen.{motor-seen}
 use Rattle.demands.proofs.Demand2.{one-step}
 use Rattle.demands.proofs.Changes.{Change, kept, heard, passed, written, call-turned}
-use Rattle.demands.proofs.Heard.{heard-obeys, heard-given, heard-changed, heard-order}
+use Rattle.demands.proofs.Heard.{heard-obeys, end-shifts, shifts-obeys, shifts-given, shifts-order}
 
 -- ---- what a call makes of the blind
 
@@ -55,7 +56,7 @@ module _ {tag : ℕ} {m : Model} {call : Call} {b : Blind} where
 
   changed-obeying : {b′ : Blind} → (dutyOf b′ ≡ dutyOf b → ⊥) → Change tag m call b b′ → Obeys b′
   changed-obeying h kept = absurd (h refl)
-  changed-obeying h (heard address value is) = heard-changed value (reached tag address m) b h
+  changed-obeying h (heard address value is) = shifts-obeys value (end-shifts value (reached tag address m) b h)
   changed-obeying h (passed dt) = absurd (h (milliseconds-duty dt b))
   changed-obeying h (written asked is) = rewritten-obeys (paramsOf asked) b
 
@@ -63,8 +64,9 @@ module _ {tag : ℕ} {m : Model} {call : Call} {b : Blind} where
       → (isFree (dutyOf b′) ≡ false) ⊎ ((address value : ℕ) → call ≡ telegram address value → SetFlags (reached tag address m))
       → Change tag m call b b′ → HasOrder b′
   changed-ordered h calm kept = absurd (h refl)
-  changed-ordered h (inl bound) (heard address value is) = heard-order value (reached tag address m) b (inr h) (inl bound)
-  changed-ordered h (inr set) (heard address value is) = heard-order value (reached tag address m) b (inr h) (inr (set address value is))
+  changed-ordered h (inl bound) (heard address value is) = shifts-order value (end-shifts value (reached tag address m) b h) (inl bound)
+  changed-ordered h (inr set) (heard address value is) =
+      shifts-order value (end-shifts value (reached tag address m) b h) (inr (set address value is))
   changed-ordered h calm (passed dt) = absurd (h (milliseconds-duty dt b))
   changed-ordered h calm (written asked is) = rewritten-order (paramsOf asked) b h
 
@@ -125,24 +127,56 @@ never-against tag (turn ∷ run) b m fine here o stay =
           (change-obeys o (t .change)) (stay .1),
     )
 
+-- an accepted telegram: the blind has heard it
+told-blind : (tag : ℕ) (m : Model) (cells : Cells) → Fine m → (address value : ℕ) (b b′ : Blind) → blindAt tag m ≡ some b
+    → does (telegram address value) m cells .answer ≡ 0 → blindAt tag (does (telegram address value) m cells .leaves) ≡ some b′
+    → b′ ≡ heardBy value (reached tag address m) b
+told-blind tag m cells fine address value b b′ here accepted now =
+    Option·some-injective _ _
+    (sym now
+    ∙ telegram-seen tag b m cells (fine .sound) here address value .blind
+    ∙ ap (λ (t : Bool). some (cond t (heardBy value (reached tag address m) b) b)) (eq-eqb _ _ accepted))
+
 module _ (tag : ℕ) (m : Model) (fine : Fine m) (turn : Turn) (stays : Stays tag turn m) (b b′ : Blind) (changed : Changed tag turn m b b′) where
   change : Change tag m (turn .call) b b′
   change =
       let t = call-turned tag b m (turn .cells) (changed .here) fine (turn .call) stays in
       subst (Change tag m (turn .call) b) (Option·some-injective (t .now) b′ (sym (t .blind) ∙ changed .now)) (t .change)
 
+  heard-it : {address value : ℕ} → turn .call ≡ telegram address value → gives turn m .answer ≡ 0 → b′ ≡ heardBy value (reached tag address m) b
+  heard-it {address} {value} is accepted =
+      told-blind tag m (turn .cells) fine address value b b′ (changed .here)
+      (subst (λ (c : Call). does c m (turn .cells) .answer ≡ 0) is accepted)
+      (subst (λ (c : Call). blindAt tag (does c m (turn .cells) .leaves) ≡ some b′) is (changed .now))
+
   -- Only a telegram or a write of its parameters changes the duty of a blind.
   pub changed-by : Changing tag (turn .call)
-  changed-by = changing (changed .other) change
+  changed-by = go (changed .alters)
+    where
+      go : Alters tag turn m b b′ → Changing tag (turn .call)
+      go (in-the-end h) = changing h change
+      go (on-the-way {address} {value} is accepted s) = subst (Changing tag) (sym is) (told address value)
 
-  -- A call that changes the duty of a blind gives it that duty's order; where the duty is Free now, a command of the same telegram
-  -- may already have moved it on.
+  -- A call that changes the duty of a blind gives it that duty's order; where the duty is Free in the end, a command of the same
+  -- telegram may already have moved it on.
   pub order-given : (isFree (dutyOf b′) ≡ false) ⊎ Uncommanded tag turn m → HasOrder b′
-  order-given calm = changed-ordered (changed .other) calm change
+  order-given calm = go (changed .alters) calm
+    where
+      go : Alters tag turn m b b′ → (isFree (dutyOf b′) ≡ false) ⊎ Uncommanded tag turn m → HasOrder b′
+      go (in-the-end h) calm = changed-ordered h calm change
+      go (on-the-way is accepted s) (inl bound) =
+          subst HasOrder (sym (heard-it is accepted))
+          (shifts-order _ s (inl (subst (λ (x : Blind). isFree (dutyOf x) ≡ false) (heard-it is accepted) bound)))
+      go (on-the-way {address} {value} is accepted s) (inr set) =
+          subst HasOrder (sym (heard-it is accepted)) (shifts-order value s (inr (set address value is)))
 
   -- It obeys that duty,
   pub change-obeyed : Obeys b′
-  change-obeyed = changed-obeying (changed .other) change
+  change-obeyed = go (changed .alters)
+    where
+      go : Alters tag turn m b b′ → Obeys b′
+      go (in-the-end h) = changed-obeying h change
+      go (on-the-way is accepted s) = subst Obeys (sym (heard-it is accepted)) (shifts-obeys _ s)
 
   -- and from then on the motor never runs against the duty.
   pub from-then-on : (run : Run) → Each (Stays tag) run (gives turn m .leaves) → Throughout (Obeyed tag) run (gives turn m .leaves)
@@ -151,19 +185,11 @@ module _ (tag : ℕ) (m : Model) (fine : Fine m) (turn : Turn) (stays : Stays ta
 
 -- A telegram that changes the duty, whatever its links to the blind say: at one of them the blind gets the order of the duty that it
 -- has in the end, and the links after that one speak to a blind that has it.
-pub order-told : (tag : ℕ) (m : Model) (cells : Cells) → Fine m → (address value : ℕ) (b b′ : Blind)
-    → Changed tag (record { call = telegram address value; cells = cells }) m b b′
-    → (b′ ≡ heardBy value (reached tag address m) b) × Given value (reached tag address m) b
-order-told tag m cells fine address value b b′ changed =
-    go (eqb (does (telegram address value) m cells .answer) 0)
-    (Option·some-injective _ _ (sym (changed .now) ∙ telegram-seen tag b m cells (fine .sound) (changed .here) address value .blind))
-  where
-    new : Blind
-    new = heardBy value (reached tag address m) b
-
-    go : (accepted : Bool) → b′ ≡ cond accepted new b → (b′ ≡ new) × Given value (reached tag address m) b
-    go true e = (e, heard-given value (reached tag address m) b (λ q. changed .other (ap dutyOf e ∙ q)))
-    go false e = absurd (changed .other (ap dutyOf e))
+pub order-told : (tag : ℕ) (m : Model) (cells : Cells) → Fine m → (address value : ℕ) (b b′ : Blind) → blindAt tag m ≡ some b
+    → does (telegram address value) m cells .answer ≡ 0 → blindAt tag (does (telegram address value) m cells .leaves) ≡ some b′
+    → Shifts value (reached tag address m) b → (b′ ≡ heardBy value (reached tag address m) b) × Given value (reached tag address m) b
+order-told tag m cells fine address value b b′ here accepted now s =
+    (told-blind tag m cells fine address value b b′ here accepted now, shifts-given value s)
 
 -- A blind that is installed obeys.
 pub installed-obeys : (tag terminal : ℕ) (asked : List ℕ) (m : Model) (cells : Cells) (b : Blind)

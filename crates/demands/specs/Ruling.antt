@@ -15,6 +15,7 @@ use Rattle.duties.specs.declared.Ruler.{Ruler}
 use Rattle.duties.specs.declared.Duty.{Duty}
 use Rattle.duties.specs.Rulers.{dutyOf}
 use Rattle.values.specs.Telegrams.{inputOf}
+use Rattle.rules.specs.Rules.{heeded}
 use Rattle.conduct.specs.Undisturbed.{flagsAfter}
 use Rattle.conduct.specs.Obeys.{HasOrder}
 use Rattle.conduct.specs.Weaker.{Below}
@@ -53,11 +54,24 @@ Throughout P (turn ∷ run) m = P m × AtEach P (lasting turn m) m × Throughout
 
 -- ---- "a telegram that changes the duty gives the blind that duty's order", "by a telegram or by a write"
 
--- The blind of a tag before and after a turn, with another duty.
+-- One of some links changes the duty of a blind, as the links before it left the blind; those after it may change it back.
+pub data Shifts (value : ℕ) : List Link → Blind → Type 0 where
+  by-this : {link : Link} {links : List Link} {b : Blind} → (dutyOf (heeded (inputOf (link .kind) value) b) ≡ dutyOf b → ⊥)
+      → Shifts value (link ∷ links) b
+  by-another : {link : Link} {links : List Link} {b : Blind} → Shifts value links (heeded (inputOf (link .kind) value) b)
+      → Shifts value (link ∷ links) b
+
+-- A turn changes the duty: it is another one in the end, or a link of an accepted telegram changes it on the way.
+pub data Alters (tag : ℕ) (turn : Turn) (m : Model) (before after : Blind) : Type 0 where
+  in-the-end : (dutyOf after ≡ dutyOf before → ⊥) → Alters tag turn m before after
+  on-the-way : {address value : ℕ} → turn .call ≡ telegram address value → gives turn m .answer ≡ 0
+      → Shifts value (reached tag address m) before → Alters tag turn m before after
+
+-- The blind of a tag before and after a turn that changes its duty.
 pub record Changed (tag : ℕ) (turn : Turn) (m : Model) (before after : Blind) : Type 0 where
   pub here : blindAt tag m ≡ some before
   pub now : blindAt tag (gives turn m .leaves) ≡ some after
-  pub other : dutyOf after ≡ dutyOf before → ⊥
+  pub alters : Alters tag turn m before after
 
 -- A telegram, or a write of the blind's parameters.
 pub data Changing (tag : ℕ) : Call → Type 0 where
