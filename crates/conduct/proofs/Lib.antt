@@ -9,3 +9,6 @@ pub mod Pause
 pub mod Undisturbed
 pub mod Arrivals
 pub mod Phases
+pub mod Duties
+pub mod Obeys
+pub mod Weaker

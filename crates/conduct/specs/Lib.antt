@@ -3,3 +3,5 @@ pub mod Courses
 pub mod Pauses
 pub mod Undisturbed
 pub mod Ends
+pub mod Obeys
+pub mod Weaker

@@ -67,7 +67,7 @@ step-blind dt tag m b e = go (m .seats tag) ∙ ap (Option·map {B = Blind} (mil
     go none = refl
     go (some seat) = refl
 
-one-step : (tag : ℕ) (m : Model) (b : Blind) → blindAt tag m ≡ some b → blindAt tag (afterStep 1 m) ≡ some (millisecond b)
+pub one-step : (tag : ℕ) (m : Model) (b : Blind) → blindAt tag m ≡ some b → blindAt tag (afterStep 1 m) ≡ some (millisecond b)
 unfolding milliseconds
 one-step tag m b e = step-blind 1 tag m b e
 

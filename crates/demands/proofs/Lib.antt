@@ -17,3 +17,7 @@ pub mod Chain
 pub mod Calm
 pub mod Tells
 pub mod Endings
+pub mod Changes
+pub mod Heard
+pub mod Obeys
+pub mod Weaker

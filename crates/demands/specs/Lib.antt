@@ -8,3 +8,4 @@ pub mod Cases
 pub mod Afresh
 pub mod Chain
 pub mod Calm
+pub mod Ruling

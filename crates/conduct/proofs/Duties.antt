@@ -1,0 +1,142 @@
+-- When two duties are the same, and what a duty hangs on: the parameters and the flags, which no order, stop or millisecond touches.
+-- Assumes nothing.
+use Prim.Native.Nat.{ℕ, zero, suc}
+use mathlib.Core.Path.{_≡_, refl, sym, ap, ap₂, _∙_, subst}
+use mathlib.Core.Bool.{Bool, true, false, cond}
+use lib.Dec.{eqb}
+use borrow.Author.Tests.{eqb-true}
+use Rattle.laws.proofs.Choices.{cond-has, never-both}
+use Rattle.params.specs.declared.Params.{Params}
+use Rattle.heights.specs.declared.Way.{Way}
+use Rattle.runs.specs.declared.Run.{Run}
+use Rattle.runs.specs.Orders.{same, mustWait}
+use Rattle.runs.specs.Millisecond.{shorter}
+use Rattle.blind.specs.declared.Flags.{Flags}
+use Rattle.blind.specs.declared.Motion.{Motion}
+use Rattle.blind.specs.declared.Blind.{Blind}
+use Rattle.blind.specs.Fields.{withParams, withFlags}
+use Rattle.blind.specs.Orders.{started, orderedOff, orderedRunning, orderedAt, ordered, motorOff, stoppedAt, stopped}
+use Rattle.blind.specs.Millisecond.{moved, arrived, ran, waited, millisecondAt, millisecond}
+use Rattle.milliseconds.specs.Milliseconds.{milliseconds}
+use Rattle.inputs.specs.declared.Aim.{Aim}
+use Rattle.inputs.specs.declared.Command.{Command}
+use Rattle.inputs.specs.Inputs.{mud, steps, ssud, towards, aimed, followed, sapbp, acted}
+use Rattle.duties.specs.declared.Ruler.{Ruler}
+use Rattle.duties.specs.declared.Duty.{Duty}
+use Rattle.duties.specs.Rulers.{rulerOf, reactionDuty, forcedDuty, dutyUnder, dutyOf, dutyNumber, sameDuty}
+
+-- ---- duties that are the same
+
+numbered : ℕ → Duty
+numbered n = cond (eqb n 1) Duty.Up (cond (eqb n 2) Duty.Down (cond (eqb n 3) Duty.Hold Duty.Free))
+
+by-number : (duty : Duty) → numbered (dutyNumber duty) ≡ duty
+unfolding numbered
+by-number Duty.Free = refl
+by-number Duty.Up = refl
+by-number Duty.Down = refl
+by-number Duty.Hold = refl
+
+pub same-duty : (one other : Duty) → sameDuty one other ≡ true → one ≡ other
+same-duty one other e =
+    sym (by-number one) ∙ ap numbered (eqb-true (dutyNumber one) (dutyNumber other) e) ∙ by-number other
+
+pub equal-duties : (one other : Duty) → one ≡ other → sameDuty one other ≡ true
+equal-duties one other same = subst (λ (d : Duty). sameDuty one d ≡ true) same (itself one)
+  where
+    itself : (duty : Duty) → sameDuty duty duty ≡ true
+    itself Duty.Free = refl
+    itself Duty.Up = refl
+    itself Duty.Down = refl
+    itself Duty.Hold = refl
+
+pub duty-decides : (one other : Duty) → Dec (one ≡ other)
+duty-decides one other = go (sameDuty one other) refl
+  where
+    go : (t : Bool) → sameDuty one other ≡ t → Dec (one ≡ other)
+    go true e = yes (same-duty one other e)
+    go false e = no (λ is. never-both (sameDuty one other) (equal-duties one other is) e)
+
+-- ---- what a duty hangs on: the parameters and the flags
+
+pub record SameRule (b b′ : Blind) : Type 0 where
+  pub params : b′ .params ≡ b .params
+  pub flags : b′ .flags ≡ b .flags
+
+same-rule : (b : Blind) → SameRule b b
+same-rule b = record { params = refl; flags = refl }
+
+pub rule-duty : (b b′ : Blind) → SameRule b b′ → dutyOf b′ ≡ dutyOf b
+unfolding dutyOf dutyUnder rulerOf
+rule-duty b b′ r =
+    ap (λ (x : Ruler). dutyUnder x b′)
+    (ap₂ (λ (p : Params) (f : Flags). rulerOf (withFlags f (withParams p b))) (r .params) (r .flags))
+    ∙ under (rulerOf b)
+  where
+    under : (x : Ruler) → dutyUnder x b′ ≡ dutyUnder x b
+    under Ruler.Nobody = refl
+    under Ruler.Wind = ap (λ (p : Params). reactionDuty (p .rwa)) (r .params)
+    under Ruler.Rain = ap (λ (p : Params). reactionDuty (p .rra)) (r .params)
+    under Ruler.Frost = ap (λ (p : Params). reactionDuty (p .rfa)) (r .params)
+    under Ruler.Forced = ap (λ (f : Flags). forcedDuty (f .forced)) (r .flags)
+
+ordered-rule : (run : Run) (b : Blind) → SameRule b (ordered run b)
+unfolding ordered orderedAt orderedOff orderedRunning started
+ordered-rule run b = go (b .motion)
+  where
+    off-rule : (rest : ℕ) → SameRule b (orderedOff rest run b)
+    off-rule rest =
+        cond-has (SameRule b) (mustWait rest (run .direction) (b .last)) _ _
+        (λ e. record { params = refl; flags = refl })
+        (λ e. record { params = refl; flags = refl })
+
+    go : (motion : Motion) → SameRule b (orderedAt motion run b)
+    go (Motion.Off rest) = off-rule rest
+    go (Motion.Waits rest waiting) = off-rule rest
+    go (Motion.Runs old) =
+        cond-has (SameRule b) (same (old .direction) (run .direction)) _ _
+        (λ e. record { params = refl; flags = refl })
+        (λ e. record { params = refl; flags = refl })
+
+stopped-rule : (b : Blind) → SameRule b (stopped b)
+unfolding stopped stoppedAt motorOff
+stopped-rule b = go (b .motion)
+  where
+    go : (motion : Motion) → SameRule b (stoppedAt motion b)
+    go (Motion.Off rest) = same-rule b
+    go (Motion.Waits rest waiting) = record { params = refl; flags = refl }
+    go (Motion.Runs run) = record { params = refl; flags = refl }
+
+pub acted-rule : (command : Command) (b : Blind) → SameRule b (acted command b)
+unfolding acted mud ssud sapbp followed towards
+acted-rule Command.Stop b = stopped-rule b
+acted-rule (Command.Move way) b = ordered-rule _ b
+acted-rule (Command.Step way) b = cond-has (SameRule b) (steps (b .motion)) _ _ (λ e. ordered-rule _ b) (λ e. stopped-rule b)
+acted-rule (Command.Position v) b = go (aimed v b)
+  where
+    go : (aim : Aim) → SameRule b (followed aim b)
+    go Aim.Dropped = same-rule b
+    go (Aim.Full d) = ordered-rule _ b
+    go (Aim.To Way.Met) = stopped-rule b
+    go (Aim.To (Way.Go d n)) = ordered-rule _ b
+
+pub millisecond-rule : (b : Blind) → SameRule b (millisecond b)
+unfolding millisecond millisecondAt waited started ran moved arrived motorOff
+millisecond-rule b = go (b .motion)
+  where
+    go : (motion : Motion) → SameRule b (millisecondAt motion b)
+    go (Motion.Off rest) = record { params = refl; flags = refl }
+    go (Motion.Waits rest run) =
+        cond-has (SameRule b) (eqb rest 1) _ _
+        (λ e. record { params = refl; flags = refl })
+        (λ e. record { params = refl; flags = refl })
+    go (Motion.Runs run) =
+        cond-has (SameRule b) (eqb (shorter 1 run .length) 0) _ _
+        (λ e. record { params = refl; flags = refl })
+        (λ e. record { params = refl; flags = refl })
+
+-- no time changes a duty
+pub milliseconds-duty : (dt : ℕ) (b : Blind) → dutyOf (milliseconds dt b) ≡ dutyOf b
+unfolding milliseconds
+milliseconds-duty zero b = refl
+milliseconds-duty (suc dt) b = rule-duty _ _ (millisecond-rule (milliseconds dt b)) ∙ milliseconds-duty dt b
