@@ -1,12 +1,12 @@
 -- What the edits of a table come to, check by check: each law takes what the code found out and gives the number of the checks, or
 -- the refusal.
 -- Assumes nothing.
-use Prim.Native.Nat.{_≤_, _<_}
+use Prim.Native.Nat.{_<_}
 use mathlib.Core.Path.{_≡_, sym, ap, _∙_}
 use mathlib.Core.Bool.{true, false, not}
 use mathlib.Core.List.{List, _∷_}
 use lib.Dec.{leb}
-use borrow.Author.Tests.{le-leb, lt-leb, leb-false, not-false}
+use borrow.Author.Tests.{lt-leb, leb-false, not-false}
 use Rattle.answers.specs.Answers.{Check, refusal}
 use Rattle.answers.specs.Rules.{refusedBy}
 use Rattle.answers.proofs.Refusals.{refused-by, passed-by, all-passed, none-left}
@@ -34,29 +34,11 @@ module _ (h : Held) where
   -- ---- add a link
 
   module _ (l : Link) where
-    pub judged-range : inRange l ≡ false → 1 ≡ refusal (addChecks l h)
+    -- nothing refuses
+    pub judged-done : inRange l ≡ true → isIn keyOf l (h .links) ≡ false → otherClass l (h .links) ≡ false → h .count < most → 0 ≡ refusal (addChecks l h)
     unfolding addChecks
-    judged-range e = sym (refused-by _ 1 _ (ap not e))
-
-    module _ (range : inRange l ≡ true) where
-      pub judged-there : isIn keyOf l (h .links) ≡ true → 4 ≡ refusal (addChecks l h)
-      unfolding addChecks
-      judged-there e = sym (passed-by _ 1 _ (ap not range) ∙ refused-by _ 4 _ e)
-
-      module _ (new : isIn keyOf l (h .links) ≡ false) where
-        pub judged-class : otherClass l (h .links) ≡ true → 8 ≡ refusal (addChecks l h)
-        unfolding addChecks
-        judged-class e = sym (passed-by _ 1 _ (ap not range) ∙ passed-by _ 4 _ new ∙ refused-by _ 8 _ e)
-
-        pub judged-full : otherClass l (h .links) ≡ false → most ≤ h .count → 7 ≡ refusal (addChecks l h)
-        unfolding addChecks
-        judged-full e n =
-            sym (passed-by _ 1 _ (ap not range) ∙ passed-by _ 4 _ new ∙ passed-by _ 8 _ e ∙ refused-by _ 7 _ (le-leb most (h .count) n))
-
-        pub judged-done : otherClass l (h .links) ≡ false → h .count < most → 0 ≡ refusal (addChecks l h)
-        unfolding addChecks
-        judged-done e n =
-            sym (passed-by _ 1 _ (ap not range) ∙ passed-by _ 4 _ new ∙ passed-by _ 8 _ e ∙ passed-by _ 7 _ (lt-leb most (h .count) n) ∙ none-left)
+    judged-done range new same-class room =
+        sym (passed-by _ 1 _ (ap not range) ∙ passed-by _ 4 _ new ∙ passed-by _ 8 _ same-class ∙ passed-by _ 7 _ (lt-leb most (h .count) room) ∙ none-left)
 
     -- what is so where no check refuses
     pub record Accepted : Type 0 where

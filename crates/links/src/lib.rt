@@ -6,8 +6,8 @@ pub mod search;
 
 ghost use Prim.Native.Nat.{_≤_, _<_, suc};
 ghost use mathlib.Core.Path.{_≡_};
-ghost use mathlib.Core.Bool.{true};
-ghost use mathlib.Core.List.{_∷_, _++_};
+ghost use mathlib.Core.Bool.{true, not};
+ghost use mathlib.Core.List.{[], _∷_, _++_};
 ghost use lib.ListN.{take, drop};
 ghost use Rattle.answers.specs.Answers.{refusal};
 ghost use Rattle.link.specs.Link.{keyOf};
@@ -41,19 +41,26 @@ fn judge_new(table: Table, link: Link, place: usize) -> u8
     requires { ⌜ place ≡ rank keyOf (keyOf link) (heldOf table .links) ⌝ }
     ensures { λ r. ⌜ r ≡ refusal (addChecks link (heldOf table)) ⌝ }
 {
-    if !link.in_range() {
+    let fits = link.in_range();
+    let there = holds(table, link, place);
+    let other = other_class(table, link);
+    first_met(fits, there, other, MOST <= table.count)
+}
+
+// The number of the first that is so.
+fn first_met(fits: bool, there: bool, other: bool, full: bool) -> u8
+    ensures { λ r. ⌜ r ≡ refusal ((not fits, 1) ∷ (there, 4) ∷ (other, 8) ∷ (full, 7) ∷ []) ⌝ }
+{
+    if !fits {
         return OUT_OF_RANGE;
     }
-    if holds(table, link, place) {
+    if there {
         return ALREADY_THERE;
     }
-    if other_class(table, link) {
+    if other {
         return ANOTHER_CLASS;
     }
-    if MOST <= table.count {
-        return TABLE_FULL;
-    }
-    DONE
+    if full { TABLE_FULL } else { DONE }
 }
 
 // The table with a link put in at a place: the links from there on move up by one.
