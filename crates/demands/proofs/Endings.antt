@@ -7,6 +7,7 @@ use mathlib.Core.Path.{_≡_, sym, ap, ap₂, _∙_, subst}
 use mathlib.Core.Bool.{Bool, true, cond, not, _&&_}
 use mathlib.Core.List.{List, [], _∷_}
 use mathlib.Core.Option.{some, Option·map, Option·some-injective}
+use lib.ListN.{length, getD}
 use borrow.Author.Tests.{eq-eqb}
 use Rattle.kinds.specs.Kinds.{sapbp}
 use Rattle.heights.specs.declared.Place.{Place}
@@ -30,6 +31,7 @@ use Rattle.conduct.proofs.SoundMotions.{milliseconds-sound}
 use Rattle.conduct.proofs.Phases.{engaged-in, stood-params, full-place, rests-then, active-until, over-then, reaches-then}
 use Rattle.conduct.proofs.Arrivals as ofOne
 use Rattle.link.specs.declared.Link.{Link}
+use Rattle.link.specs.Link.{nothing}
 use Rattle.panel.specs.Panel.{Model}
 use Rattle.panel.specs.Sound.{Fine}
 use Rattle.panel.specs.Calls.{Cells}
@@ -42,6 +44,7 @@ use Rattle.demands.proofs.Soundness.{kept-fine}
 use Rattle.demands.proofs.BlindSeen.{telegram-seen}
 use Rattle.demands.proofs.Calm.{Apart}
 use Rattle.demands.proofs.Waiting.{blind-sound, at-first, motion-then, pauses-then, left, short}
+use Rattle.demands.proofs.OneLink.{one-link}
 use Rattle.demands.proofs.Tells.{said, tells, said-none, said-one, tells-same, run-tells}
 
 -- ---- the end of a run
@@ -117,7 +120,8 @@ module _ (tag : ℕ) (run : Run) (b : Blind) (m : Model) (fine : Fine m) (here :
 -- ---- a run to a position
 
 module _ (tag address v : ℕ) (b : Blind) (m : Model) (cells : Cells) (fine : Fine m) (here : blindAt tag m ≡ some b)
-    (done : does (telegram address v) m cells .answer ≡ 0) (link : Link) (only : reached tag address m ≡ link ∷ []) (kind : link .kind ≡ sapbp) where
+    (done : does (telegram address v) m cells .answer ≡ 0) (i : ℕ) (linked : i < length (reached tag address m))
+    (kind : getD (reached tag address m) i nothing .kind ≡ sapbp) where
   position : Input
   position = Input.Command (Command.Position v)
 
@@ -127,7 +131,7 @@ module _ (tag address v : ℕ) (b : Blind) (m : Model) (cells : Cells) (fine : F
   aims =
       telegram-seen tag b m cells (fine .sound) here address v .blind
       ∙ ap (λ (t : Bool). some (cond t (heardBy v (reached tag address m) b) b)) (eq-eqb (does (telegram address v) m cells .answer) 0 done)
-      ∙ ap (λ (links : List Link). some (heardBy v links b)) only
+      ∙ ap (λ (links : List Link). some (heardBy v links b)) (one-link tag address m fine i linked kind)
       ∙ ap (λ (k : ℕ). some (heeded (inputOf k v) b)) kind
 
   -- A run to v that SAPBP begins on a valid position ends at floor(v · MUDT / 255).

@@ -16,6 +16,7 @@ pub mod AfreshOnly
 pub mod Chain
 pub mod Calm
 pub mod Tells
+pub mod OneLink
 pub mod Endings
 pub mod Changes
 pub mod Heard
