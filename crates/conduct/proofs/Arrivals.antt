@@ -29,9 +29,8 @@ use Rattle.inputs.specs.Inputs.{runTo, towards, aimedBetween, aimed, followed, 
 use Rattle.duties.specs.Rulers.{dutyOf, isFree}
 use Rattle.values.specs.declared.Input.{Input}
 use Rattle.rules.specs.Rules.{commanded, heeded}
-use Rattle.conduct.specs.Courses.{Stands}
 use Rattle.conduct.specs.Ends.{Engaged, waits, runs, untilEnd, Reaches}
-use Rattle.conduct.proofs.Kept.{ordered-stands, stopped-stands}
+use Rattle.conduct.proofs.Kept.{Steady, ordered-steady, stopped-steady}
 use Rattle.conduct.proofs.SoundCourses.{heeded-sound}
 use Rattle.conduct.proofs.Undisturbed.{undisturbed, seen}
 
@@ -58,7 +57,7 @@ order-reaches : (run : Run) (b : Blind) (place : Place) → Sound (ordered run b
     → placeAfter (run .length) (run .direction) (b .params) (b .place) ≡ place → Reaches place (ordered run b)
 unfolding arrived motorOff
 order-reaches run b place s goal there course alone e =
-    let t : Stands b (ordered run b) = ordered-stands run b in
+    let t : Steady b (ordered run b) = ordered-steady run b in
     let b′ : Blind = ordered run b in
     let over : Blind = motorOff (movedBy (run .length) (run .direction) (withLast (lastOf (run .direction)) b′)) in
     seen s alone run (ordered-on run b) (λ (x : Blind). x .place) (λ f x. refl) e
@@ -72,7 +71,7 @@ unfolding stopped stoppedAt motorOff milliseconds
 stop-reaches b course alone e =
     ap (λ (x : Blind). x .place) (undisturbed alone)
     ∙ ap (λ (k : ℕ). milliseconds k (stopped b) .place) (e ∙ go (b .motion) refl)
-    ∙ stopped-stands b .place
+    ∙ stopped-steady b .place
   where
     go : (motion : Motion) → b .motion ≡ motion → untilEnd (stoppedAt motion b .motion) ≡ 0
     go (Motion.Off rest) m = ap untilEnd m

@@ -7,23 +7,20 @@ use lib.Dec.{eqb}
 use borrow.Author.Tests.{eqb-true}
 use Rattle.laws.proofs.Choices.{cond-has, never-both}
 use Rattle.params.specs.declared.Params.{Params}
-use Rattle.heights.specs.declared.Way.{Way}
-use Rattle.runs.specs.declared.Run.{Run}
-use Rattle.runs.specs.Orders.{same, mustWait}
 use Rattle.runs.specs.Millisecond.{shorter}
 use Rattle.blind.specs.declared.Flags.{Flags}
 use Rattle.blind.specs.declared.Motion.{Motion}
 use Rattle.blind.specs.declared.Blind.{Blind}
 use Rattle.blind.specs.Fields.{withParams, withFlags}
-use Rattle.blind.specs.Orders.{started, orderedOff, orderedRunning, orderedAt, ordered, motorOff, stoppedAt, stopped}
+use Rattle.blind.specs.Orders.{started, motorOff}
 use Rattle.blind.specs.Millisecond.{moved, arrived, ran, waited, millisecondAt, millisecond}
 use Rattle.milliseconds.specs.Milliseconds.{milliseconds}
-use Rattle.inputs.specs.declared.Aim.{Aim}
 use Rattle.inputs.specs.declared.Command.{Command}
-use Rattle.inputs.specs.Inputs.{mud, steps, ssud, towards, aimed, followed, sapbp, acted}
+use Rattle.inputs.specs.Inputs.{acted}
 use Rattle.duties.specs.declared.Ruler.{Ruler}
 use Rattle.duties.specs.declared.Duty.{Duty}
 use Rattle.duties.specs.Rulers.{rulerOf, reactionDuty, forcedDuty, dutyUnder, dutyOf, dutyNumber, sameDuty}
+use Rattle.conduct.proofs.Kept.{acted-steady}
 
 -- ---- duties that are the same
 
@@ -63,9 +60,6 @@ pub record SameRule (b b′ : Blind) : Type 0 where
   pub params : b′ .params ≡ b .params
   pub flags : b′ .flags ≡ b .flags
 
-same-rule : (b : Blind) → SameRule b b
-same-rule b = record { params = refl; flags = refl }
-
 pub rule-duty : (b b′ : Blind) → SameRule b b′ → dutyOf b′ ≡ dutyOf b
 unfolding dutyOf dutyUnder rulerOf
 rule-duty b b′ r =
@@ -80,45 +74,8 @@ rule-duty b b′ r =
     under Ruler.Frost = ap (λ (p : Params). reactionDuty (p .rfa)) (r .params)
     under Ruler.Forced = ap (λ (f : Flags). forcedDuty (f .forced)) (r .flags)
 
-ordered-rule : (run : Run) (b : Blind) → SameRule b (ordered run b)
-unfolding ordered orderedAt orderedOff orderedRunning started
-ordered-rule run b = go (b .motion)
-  where
-    off-rule : (rest : ℕ) → SameRule b (orderedOff rest run b)
-    off-rule rest =
-        cond-has (SameRule b) (mustWait rest (run .direction) (b .last)) _ _
-        (λ e. record { params = refl; flags = refl })
-        (λ e. record { params = refl; flags = refl })
-
-    go : (motion : Motion) → SameRule b (orderedAt motion run b)
-    go (Motion.Off rest) = off-rule rest
-    go (Motion.Waits rest waiting) = off-rule rest
-    go (Motion.Runs old) =
-        cond-has (SameRule b) (same (old .direction) (run .direction)) _ _
-        (λ e. record { params = refl; flags = refl })
-        (λ e. record { params = refl; flags = refl })
-
-stopped-rule : (b : Blind) → SameRule b (stopped b)
-unfolding stopped stoppedAt motorOff
-stopped-rule b = go (b .motion)
-  where
-    go : (motion : Motion) → SameRule b (stoppedAt motion b)
-    go (Motion.Off rest) = same-rule b
-    go (Motion.Waits rest waiting) = record { params = refl; flags = refl }
-    go (Motion.Runs run) = record { params = refl; flags = refl }
-
 pub acted-rule : (command : Command) (b : Blind) → SameRule b (acted command b)
-unfolding acted mud ssud sapbp followed towards
-acted-rule Command.Stop b = stopped-rule b
-acted-rule (Command.Move way) b = ordered-rule _ b
-acted-rule (Command.Step way) b = cond-has (SameRule b) (steps (b .motion)) _ _ (λ e. ordered-rule _ b) (λ e. stopped-rule b)
-acted-rule (Command.Position v) b = go (aimed v b)
-  where
-    go : (aim : Aim) → SameRule b (followed aim b)
-    go Aim.Dropped = same-rule b
-    go (Aim.Full d) = ordered-rule _ b
-    go (Aim.To Way.Met) = stopped-rule b
-    go (Aim.To (Way.Go d n)) = ordered-rule _ b
+acted-rule command b = let s = acted-steady command b in record { params = s .params; flags = s .flags }
 
 pub millisecond-rule : (b : Blind) → SameRule b (millisecond b)
 unfolding millisecond millisecondAt waited started ran moved arrived motorOff

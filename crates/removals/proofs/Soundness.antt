@@ -1,12 +1,11 @@
 -- An accepted remove blind leaves a sound panel whose table has as many links as it says. Assumes nothing.
 use Prim.Native.Nat.{ℕ, _<_}
 use mathlib.Core.Path.{_≡_, refl, _∙_}
-use mathlib.Core.Bool.{Bool, true, false, cond}
-use mathlib.Core.List.{List, [], _∷_}
+use mathlib.Core.List.{[]}
 use lib.ListN.{length, getD}
 use borrow.Author.Tests.{eqb-false, not-true}
-use Rattle.laws.specs.Kept.{kept}
-use Rattle.laws.proofs.Each.{Each, none, more, each-at}
+use Rattle.laws.proofs.Each.{each-at}
+use Rattle.laws.proofs.Kept.{kept-pass}
 use Rattle.answers.specs.Answers.{refusal}
 use Rattle.answers.proofs.Refusals.{none-left}
 use Rattle.link.specs.Link.{nothing}
@@ -25,16 +24,6 @@ use Rattle.wiring.proofs.Soundness.{named}
 use Rattle.removals.specs.Removals.{removeRule}
 use Rattle.removals.proofs.Passed.{Removable, removable}
 
--- what is kept passes the test
-passing : {A : Type 0} (p : A → Bool) (xs : List A) → Each (λ x. p x ≡ true) (kept p xs)
-unfolding kept
-passing p [] = none
-passing p (x ∷ xs) = go (p x) refl (passing p xs)
-  where
-    go : (b : Bool) → p x ≡ b → Each (λ x. p x ≡ true) (kept p xs) → Each (λ x. p x ≡ true) (cond b (x ∷ kept p xs) (kept p xs))
-    go true e ih = more e ih
-    go false e ih = ih
-
 -- the links of the tag go with it, so the table is another one
 pub remove-keeps : (m : Model) (cells : Cells) → Fine m → (tag : ℕ) → refusal (removeRule tag .checks m cells) ≡ 0 → Fine (removeRule tag .leaves m)
 unfolding removeRule reseated dropped tableDrop
@@ -52,4 +41,4 @@ remove-keeps m cells f tag e =
     }
   where
     gone : (i : ℕ) → i < length (tagLinks tag (m .table)) → getD (tagLinks tag (m .table)) i nothing .tag ≡ tag → ⊥
-    gone i h = eqb-false _ tag (not-true _ (each-at (tagLinks tag (m .table)) nothing i h (passing (stays tag) (m .table .links))))
+    gone i h = eqb-false _ tag (not-true _ (each-at (tagLinks tag (m .table)) nothing i h (kept-pass (stays tag) (m .table .links))))
