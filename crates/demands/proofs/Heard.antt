@@ -71,25 +71,11 @@ given-now {value} {link} {links} {b} o later =
     go (yes e) = record { first = link ∷ []; rest = links; all = refl; order = o; duty = e }
     go (no n) = given-later (later (λ q. n (sym q)))
 
-end-given : (value : ℕ) (links : List Link) (b : Blind) → (dutyOf (heardBy value links b) ≡ dutyOf b → ⊥) → Given value links b
-unfolding heardBy
-end-given value [] b h = absurd (h refl)
-end-given value (link ∷ links) b h =
-    go (duty-decides (dutyOf (heeded input b)) (dutyOf b)) (end-given value links (heeded input b))
-  where
-    input : Input
-    input = inputOf (link .kind) value
-
-    go : Dec (dutyOf (heeded input b) ≡ dutyOf b)
-        → ((dutyOf (heardBy value links (heeded input b)) ≡ dutyOf (heeded input b) → ⊥) → Given value links (heeded input b))
-        → Given value (link ∷ links) b
-    go (yes e) later = given-later (later (λ q. h (q ∙ e)))
-    go (no n) later = given-now (changed-order input b n) later
-
-pub shifts-given : (value : ℕ) {links : List Link} {b : Blind} → Shifts value links b → Given value links b
-shifts-given value (by-this {link} {links} {b} h) =
-    given-now (changed-order (inputOf (link .kind) value) b h) (end-given value links (heeded (inputOf (link .kind) value) b))
-shifts-given value (by-another s) = given-later (shifts-given value s)
+pub shifts-given : (value : ℕ) (links : List Link) (b : Blind) → Shifts value links b → Given value links b
+shifts-given value (link ∷ links) b (by-this h) =
+    given-now (changed-order (inputOf (link .kind) value) b h)
+    (λ n. shifts-given value links (heeded (inputOf (link .kind) value) b) (end-shifts value links (heeded (inputOf (link .kind) value) b) n))
+shifts-given value (link ∷ links) b (by-another s) = given-later (shifts-given value links (heeded (inputOf (link .kind) value) b) s)
 
 -- ---- the order in the end
 

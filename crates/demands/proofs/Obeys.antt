@@ -189,7 +189,7 @@ pub order-told : (tag : ℕ) (m : Model) (cells : Cells) → Fine m → (address
     → does (telegram address value) m cells .answer ≡ 0 → blindAt tag (does (telegram address value) m cells .leaves) ≡ some b′
     → Shifts value (reached tag address m) b → (b′ ≡ heardBy value (reached tag address m) b) × Given value (reached tag address m) b
 order-told tag m cells fine address value b b′ here accepted now s =
-    (told-blind tag m cells fine address value b b′ here accepted now, shifts-given value s)
+    (told-blind tag m cells fine address value b b′ here accepted now, shifts-given value _ b s)
 
 -- A blind that is installed obeys.
 pub installed-obeys : (tag terminal : ℕ) (asked : List ℕ) (m : Model) (cells : Cells) (b : Blind)
