@@ -1,4 +1,4 @@
--- W1 to W12, and the caretaker's story, by computation from the definitions.
+-- W1 to W12, R3 and the caretaker's story, by computation from the definitions.
 -- Assumes nothing.
 use mathlib.Core.Path.{_≡_, refl}
 use mathlib.Core.Bool.{true}
@@ -44,12 +44,17 @@ use Rattle.splices.specs.Splices.{offStrip, shifted, raised, spliceInRule}
 use Rattle.panel.specs.Panel.{bare}
 use Rattle.demands.specs.Runs.{motorSeen}
 use Rattle.demands.specs.Whole.{whole, sameList, samePanel}
-use Rattle.demands.specs.Cases.{right, cases, allRight, story}
+use Rattle.demands.specs.Cases.{right, cases, allRight, r3, story}
 
 -- "W1 to W12 are shown to follow from the rules, as one list with one claim over it."
 pub cases-right : allRight ≡ true
 unfolding allRight cases right whole sameList samePanel first carried tabulate every distinct there any kept howMany lowestFree reactionOf numbersOf paramsOf allowed defaults within timesInRange inRange fullTime bottom nextPlace endOf target wayTo part told started orderedOff orderedRunning orderedAt ordered motorOff stoppedAt stopped freshOf moved arrived shorter ran waited millisecondAt millisecond milliseconds motorOf active busy report soundWait soundRunning soundMotion sound mud ssud towards aimedBetween aimed followed sapbp acted rulerOf dutyUnder dutyOf ruled flagged commanded heeded commandOf inputOf classOf linkInRange keyOf mayFollow linksTo addressClass inOrder tableSound isIn inserted isFirst movedAmong otherClass noLinkTo movedLinks presentIn reseated eachSeat seatsIn soundSeat soundSeats allNamed isSound checks lentChecks reports isOutside linkChecks served delivered afterTelegram telegramRule afterStep stepRule commandAt commands stripRule someSeat inUse busyFrom wouldPass installRule addRule offStrip shifted raised spliceInRule motorSeen
 cases-right = refl
+
+-- Each link of a telegram speaks to the blind as the link before left it, in table order.
+pub r3-right : right r3 bare ≡ true
+unfolding right first carried tabulate every distinct there any kept howMany lowestFree reactionOf numbersOf paramsOf allowed defaults within timesInRange inRange fullTime bottom nextPlace endOf target wayTo part told started orderedOff orderedRunning orderedAt ordered motorOff stoppedAt stopped freshOf moved arrived shorter ran waited millisecondAt millisecond milliseconds motorOf active busy report soundWait soundRunning soundMotion sound mud ssud towards aimedBetween aimed followed sapbp acted rulerOf dutyUnder dutyOf ruled flagged commanded heeded commandOf inputOf classOf linkInRange keyOf mayFollow linksTo addressClass inOrder tableSound isIn inserted isFirst movedAmong otherClass noLinkTo movedLinks presentIn reseated eachSeat seatsIn soundSeat soundSeats allNamed isSound checks lentChecks reports isOutside linkChecks served delivered afterTelegram telegramRule afterStep stepRule commandAt commands stripRule someSeat inUse busyFrom wouldPass installRule addRule offStrip shifted raised spliceInRule motorSeen
+r3-right = refl
 
 -- Only the west goes up under its wind alarm; the south, at its new terminal, hears only what is its own.
 pub story-right : right story bare ≡ true

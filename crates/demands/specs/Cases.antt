@@ -261,6 +261,16 @@ w12 =
     ∷ changes (spliceIn 9 118) (reseat 5 (standingAt 127)) (stands 5 127)
     ∷ [])
 
+-- R3, "MUD and STOP on one address, blind not busy: no report, rest time RPT." From the last link to the first the blind would run, and
+-- with each link on the blind before the call its rest time would be 0.
+abbrev pub r3 : List Line
+r3 =
+    fresh
+    ++ (plain (addLink (record { address = 5; tag = 5; kind = 5 }))
+    ∷ plain (timeStep 500)
+    ∷ look (MUD 0) (both (λ r. onBlind (λ b. restIs 500 (b .motion)) (blindAt 5 (r .leaves))) (reports noReport))
+    ∷ [])
+
 unfoldable pub cases : List (List Line)
 cases = w1 ∷ w2 ∷ w3 ∷ w4 ∷ w5 ∷ w6 ∷ w7 ∷ w8 ∷ w9 ∷ w10 ∷ w11 ∷ w12 ∷ []
 

@@ -29,13 +29,9 @@ use Rattle.panel.specs.Sound.{Sound}
 use Rattle.panel.proofs.Seats.{same-model, seat-present, present-tags, blind-written}
 use Rattle.telegrams.specs.Telegrams.{served, delivered}
 
--- the first of the elements from i to just before end
-span-next : {A : Type 0} (ls : List A) (d : A) (i end : ℕ) → i < end → i < length ls
-    → take (end - i) (drop i ls) ≡ getD ls i d ∷ take (end - (i + 1)) (drop (i + 1) ls)
-span-next {A} ls d i end h fits =
-    let more : end - i ≡ suc (end - (i + 1)) = omega arith in
-    ap₂ (λ (k : ℕ) (l : List A). take k l) more (drop-cons ls i d fits)
-    ∙ ap (λ (k : ℕ). getD ls i d ∷ take (end - (i + 1)) (drop k ls)) (sym (add-one i))
+-- the first of the elements from a place on, and those after it
+first-next : {A : Type 0} (ls : List A) (d : A) (i k : ℕ) → i < length ls → take (suc k) (drop i ls) ≡ getD ls i d ∷ take k (drop (i + 1) ls)
+first-next {A} ls d i k fits = ap (take (suc k)) (drop-cons ls i d fits) ∙ ap (λ (n : ℕ). getD ls i d ∷ take k (drop n ls)) (sym (add-one i))
 
 -- ---- one link
 
@@ -66,66 +62,77 @@ link-served p link value b present fits e =
 
 -- ---- all links of a span
 
-module _ (value : ℕ) (p : Panel) (start end : ℕ) where
+module _ (value : ℕ) (p : Panel) (start count : ℕ) where
+  -- the links that are left when so many have spoken
+  abbrev pub left : ℕ → List Link
+  left turn = take (count - turn) (drop (start + turn) (heldOf (p .table) .links))
+
   -- what the whole span leads to
   abbrev pub target : Model
-  target = delivered value (take (end - start) (drop start (heldOf (p .table) .links))) (modelOf p)
+  target = delivered value (take count (drop start (heldOf (p .table) .links))) (modelOf p)
 
-  -- the panel after the links before i
-  pub record Delivering (next : Panel) (i : ℕ) : Type 0 where
-    pub present : next .present ≡ p .present
-    pub room : length (next .blinds) ≡ places
-    pub rest : delivered value (take (end - i) (drop i (heldOf (p .table) .links))) (modelOf next) ≡ target
+  -- the blinds when so many links have spoken
+  pub record Delivering (blinds : List Blind) (turn : ℕ) : Type 0 where
+    pub room : length blinds ≡ places
+    pub rest : delivered value (left turn) (modelOf (withBlinds blinds p)) ≡ target
 
-  pub deliver-start : length (p .blinds) ≡ places → Delivering p start
-  deliver-start room = record { present = refl; room = room; rest = refl }
+  pub deliver-start : length (p .blinds) ≡ places → Delivering (p .blinds) 0
+  deliver-start room =
+      let all : count - 0 ≡ count = omega arith in
+      let here : start + 0 ≡ start = omega arith in
+      record { room = room; rest = ap₂ (λ (k i : ℕ). delivered value (take k (drop i (heldOf (p .table) .links))) (modelOf p)) all here }
 
-  pub deliver-end : (next : Panel) (i : ℕ) → end ≤ i → Delivering next i → modelOf next ≡ target
+  pub deliver-end : (blinds : List Blind) (turn : ℕ) → count ≤ turn → Delivering blinds turn → modelOf (withBlinds blinds p) ≡ target
   unfolding delivered
-  deliver-end next i h so-far =
-      let none-left : end - i ≡ 0 = omega arith in
-      sym (ap (λ (k : ℕ). delivered value (take k (drop i (heldOf (p .table) .links))) (modelOf next)) none-left) ∙ so-far .rest
+  deliver-end blinds turn h so-far =
+      let none-left : count - turn ≡ 0 = omega arith in
+      sym (ap (λ (k : ℕ). delivered value (take k (drop (start + turn) (heldOf (p .table) .links))) (modelOf (withBlinds blinds p))) none-left)
+      ∙ so-far .rest
 
-  module _ (sound : Sound (modelOf p)) (room : length (p .table .links) ≡ 512) (fits : end ≤ p .table .count) where
+  module _ (sound : Sound (modelOf p)) (room : length (p .table .links) ≡ 512) (fits : start + count ≤ p .table .count) where
     tested : ofLinks.isSound (heldOf (p .table)) ≡ true
     tested = sound-decided (heldOf (p .table)) .1 (sound .links)
 
     full : length (heldOf (p .table) .links) ≡ p .table .count
     full = many (p .table) room (few (p .table) tested)
 
-    held-at : (i : ℕ) → i < end → getD (heldOf (p .table) .links) i nothing ≡ getD (p .table .links) i nothing
+    held-at : (i : ℕ) → i < start + count → getD (heldOf (p .table) .links) i nothing ≡ getD (p .table .links) i nothing
     held-at i h = getD-take (p .table .count) (p .table .links) i nothing (omega arith)
 
     -- the tag of a link is one of the 64
-    pub tag-low : (i : ℕ) → i < end → getD (p .table .links) i nothing .tag < places
+    pub tag-low : (i : ℕ) → i < start + count → getD (p .table .links) i nothing .tag < places
     tag-low i h =
         let range = range-reads (getD (heldOf (p .table) .links) i nothing) (sound .links .in-range i (omega (arith, full))) in
         let low : getD (heldOf (p .table) .links) i nothing .tag < places = omega (arith, range .tag-high) in
         rw (held-at i h) at low
 
     -- and it is present
-    tag-there : (i : ℕ) → i < end → tagsOf (p .present) (getD (p .table .links) i nothing .tag) ≡ true
+    tag-there : (i : ℕ) → i < start + count → tagsOf (p .present) (getD (p .table .links) i nothing .tag) ≡ true
     tag-there i h =
         ap₂ (λ (s : TagSet) (l : Link). s (l .tag)) (sym (present-tags p)) (sym (held-at i h)) ∙ sound .named i (omega (arith, full))
 
+    -- the next link, and those that are left after it
+    left-next : (turn i : ℕ) → turn < count → i ≡ start + turn → left turn ≡ getD (p .table .links) i nothing ∷ left (turn + 1)
+    left-next turn i h e =
+        let ls = heldOf (p .table) .links in
+        let more : count - turn ≡ suc (count - (turn + 1)) = omega arith in
+        let after : i + 1 ≡ start + (turn + 1) = omega (arith, e) in
+        ap₂ (λ (k n : ℕ). take k (drop n ls)) more (sym e)
+        ∙ first-next ls nothing i (count - (turn + 1)) (omega (arith, e, full))
+        ∙ ap₂ (λ (l : Link) (n : ℕ). l ∷ take (count - (turn + 1)) (drop n ls)) (held-at i (omega (arith, e))) after
+
     -- one turn
-    pub deliver-turn : (next : Panel) (i : ℕ) (b : Blind) → i < end
-        → b ≡ heeded (inputOf (getD (p .table .links) i nothing .kind) value) (getD (next .blinds) (getD (p .table .links) i nothing .tag) nobody)
-        → Delivering next i → Delivering (withBlinds (set (next .blinds) (getD (p .table .links) i nothing .tag) b) next) (i + 1)
+    pub deliver-turn : (blinds : List Blind) (turn i : ℕ) (b : Blind) → turn < count → i ≡ start + turn
+        → b ≡ heeded (inputOf (getD (p .table .links) i nothing .kind) value) (getD blinds (getD (p .table .links) i nothing .tag) nobody)
+        → Delivering blinds turn → Delivering (set blinds (getD (p .table .links) i nothing .tag) b) (turn + 1)
     unfolding delivered
-    deliver-turn next i b h e so-far =
+    deliver-turn blinds turn i b h e heard so-far =
         let link = getD (p .table .links) i nothing in
-        let present : tagsOf (next .present) (link .tag) ≡ true =
-        ap (λ t. tagsOf t (link .tag)) (so-far .present) ∙ tag-there i h in
-        let here : modelOf (withBlinds (set (next .blinds) (link .tag) b) next) ≡ eachSeat (served value link) (modelOf next) =
-        link-served next link value b present (omega (arith, tag-low i h, so-far .room)) e in
-        let split : take (end - i) (drop i (heldOf (p .table) .links)) ≡ link ∷ take (end - (i + 1)) (drop (i + 1) (heldOf (p .table) .links)) =
-        span-next (heldOf (p .table) .links) nothing i end h (omega (arith, full))
-        ∙ ap (λ (l : Link). l ∷ take (end - (i + 1)) (drop (i + 1) (heldOf (p .table) .links))) (held-at i h) in
+        let next = withBlinds blinds p in
+        let at : i < start + count = omega (arith, e) in
         record {
-          present = so-far .present;
-          room = length-set (next .blinds) (link .tag) b ∙ so-far .room;
+          room = length-set blinds (link .tag) b ∙ so-far .room;
           rest =
-              ap (delivered value (take (end - (i + 1)) (drop (i + 1) (heldOf (p .table) .links)))) here
-              ∙ sym (ap (λ (ls : List Link). delivered value ls (modelOf next)) split) ∙ so-far .rest;
+              ap (delivered value (left (turn + 1))) (link-served next link value b (tag-there i at) (omega (arith, tag-low i at, so-far .room)) heard)
+              ∙ sym (ap (λ (ls : List Link). delivered value ls (modelOf next)) (left-next turn i h e)) ∙ so-far .rest;
         }

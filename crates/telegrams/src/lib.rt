@@ -20,7 +20,7 @@ use rules::heed;
 use table::Table;
 use tags::CELLS;
 use values::Input;
-ghost use Prim.Native.Nat.{_≤_, _+_};
+ghost use Prim.Native.Nat.{_<_, _≤_, _+_};
 ghost use mathlib.Core.Path.{_≡_};
 ghost use mathlib.Core.Bool.{true};
 ghost use mathlib.Core.List.{_∷_};
@@ -67,7 +67,7 @@ pub fn telegram(panel: Panel, address: u64, value: u64, cells: &mut [u16]) -> An
     }
     let present = panel.present;
     let heard = reach.count;
-    let next = deliver(panel, reach.start, reach.count, value as u8);
+    let next = deliver(panel, reach, value as u8);
     for tag in 0..CELLS {
         let there = present.has(tag as u64);
         let old = panel.blinds[tag];
@@ -86,6 +86,17 @@ struct Reach {
     answer: u8,
     start: usize,
     count: usize,
+}
+
+impl Reach {
+    // Where the link stands whose turn it is: they are served in table order.
+    fn place(self, turn: usize) -> usize
+        requires { ⌜ turn < self .count ⌝ }
+        requires { ⌜ self .start + self .count ≤ 512 ⌝ }
+        ensures { λ r. ⌜ r ≡ self .start + turn ⌝ }
+    {
+        self.start + turn
+    }
 }
 
 // The links of the address are looked up once, for their number, their class and their place. All links of an address
@@ -142,22 +153,21 @@ fn class(link: Link) -> u64
 }
 
 // Each link speaks to the blind of its tag, as the link before left it.
-fn deliver(mut panel: Panel, start: usize, count: usize, value: u8) -> Panel
+fn deliver(panel: Panel, reach: Reach, value: u8) -> Panel
     requires { ⌜ Sound (modelOf panel) ⌝ }
-    requires { ⌜ start + count ≤ panel .table .count ⌝ }
-    ensures { λ r. ⌜ modelOf r ≡ delivered value (take count (drop start (modelOf panel .table .links))) (modelOf panel) ⌝ }
+    requires { ⌜ reach .start + reach .count ≤ panel .table .count ⌝ }
+    ensures { λ r. ⌜ modelOf r ≡ delivered value (take (reach .count) (drop (reach .start) (modelOf panel .table .links))) (modelOf panel) ⌝ }
 {
     let table = panel.table;
-    let end = start + count;
-    let mut i = start;
-    while i < end {
-        let link = table.links[i];
+    let count = reach.count;
+    let mut blinds = panel.blinds;
+    for turn in 0..count {
+        let link = table.links[reach.place(turn)];
         let tag = link.tag as usize;
-        let blind = panel.blinds[tag];
-        panel.blinds[tag] = hear(blind, link, value);
-        i += 1;
+        let blind = blinds[tag];
+        blinds[tag] = hear(blind, link, value);
     }
-    panel
+    Panel { blinds, ..panel }
 }
 
 fn hear(blind: Blind, link: Link, value: u8) -> Blind

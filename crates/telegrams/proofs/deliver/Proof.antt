@@ -1,65 +1,60 @@
--- What is left of the links, on the panel so far, leads to what all of them lead to.
-use Prim.Native.Nat.{ℕ, _+_, _-_, _<_}
+-- What is left of the links, on the blinds so far, leads to what all of them lead to.
+use Prim.Native.Nat.{ℕ, _+_, _-_, _<_, _≤_}
 use native.Mathlib.Omega.{arith}
-use mathlib.Core.Path.{_≡_, ap, _∙_}
-use lib.ListN.{length, getD, take, drop}
+use mathlib.Core.Path.{_≡_, ap}
+use lib.ListN.{length, getD}
 use borrow.Author.Needs.{needs}
 use Rattle.laws.proofs.Fills.{long}
 use Rattle.tags.specs.Tags.{places}
 use Rattle.link.specs.Link.{nothing}
-use Rattle.panel.specs.Panel.{modelOf}
-use Rattle.telegrams.specs.Telegrams.{delivered}
 use Rattle.telegrams.proofs.Delivery.{Delivering, deliver-start, deliver-turn, deliver-end, tag-low}
 use Rattle.telegrams.proofs.deliver.Statement.{statement}
 use Rattle.telegrams.proofs.deliver.Tie as tie
 
 abbrev Inv-loop : tie.InvT-loop
-Inv-loop start count value panel₀ table end i₀ panel i = Delivering value panel₀ start end panel i
+Inv-loop panel reach value table blinds₀ turn₀ count blinds turn = Delivering value panel (reach .start) (reach .count) blinds turn
 
 abbrev μ-loop : tie.MeasureT-loop
-μ-loop start count value panel₀ table end i₀ panel i = end - i
+μ-loop panel reach value table blinds₀ turn₀ count blinds turn = reach .count - turn
 
 -- the table has its 512 places
-places-of : (c : tie.Start Inv-loop μ-loop) → length (c .args .t1 .table .links) ≡ 512
-places-of c = search (long, needs)
+room : (c : tie.Start Inv-loop μ-loop) → length (c .args .panel .table .links) ≡ 512
+room c = search (long, needs)
 
--- just after the links
-abbrev after : tie.Start Inv-loop μ-loop → ℕ
-after c = c .args .start + c .args .count
+-- the links that are reached stand in the table
+fits : (c : tie.Start Inv-loop μ-loop) → c .args .reach .start + c .args .reach .count ≤ 512
+fits c = omega (arith, c .pre .1, c .pre .0 .links .at-most)
 
 loop-holds : tie.Need-loop-holds Inv-loop μ-loop
 loop-holds c =
-    let start = c .before in
-    deliver-start (start .args .value) (start .args .t1) (start .args .start) (after start) (search (long, needs))
+    let start = c .before .before in
+    deliver-start (start .args .value) (start .args .panel) (start .args .reach .start) (start .args .reach .count) (search (long, needs))
 
 loop-again : tie.Need-loop-again Inv-loop μ-loop
 loop-again c =
-    let at = c .before .before .before .before .before in
-    let start = at .before .before in
-    deliver-turn (start .args .value) (start .args .t1) (start .args .start) (after start) (start .pre .0) (places-of start) (start .pre .1)
-    (at .loop .panel) (at .loop .i) (c .hear .result) (c .before .before .before .before .loop-test .taken) (c .hear .ensures) (at .loop .inv)
+    let placed = c .before .before .before .before in
+    let at = placed .before .before in
+    let start = at .before .before .before in
+    deliver-turn (start .args .value) (start .args .panel) (start .args .reach .start) (start .args .reach .count) (start .pre .0) (room start) (start .pre .1)
+    (at .loop .blinds) (at .loop .turn) (placed .place .result) (c .hear .result) (placed .before .loop-test .taken) (placed .place .ensures) (c .hear .ensures) (at .loop .inv)
 
 returns : tie.Need-returns Inv-loop μ-loop
 returns c =
-    let start = c .before .before .before in
-    let m = modelOf (start .args .t1) in
-    let counted : after start - start .args .start ≡ start .args .count = omega arith in
-    deliver-end (start .args .value) (start .args .t1) (start .args .start) (after start) (c .before .loop .panel) (c .before .loop .i)
-    (c .loop-test .left) (c .before .loop .inv)
-    ∙ ap (λ (k : ℕ). delivered (start .args .value) (take k (drop (start .args .start) (m .table .links))) m) counted
+    let over = c .before .before .before in
+    let start = over .before .before .before .before in
+    deliver-end (start .args .value) (start .args .panel) (start .args .reach .start) (start .args .reach .count) (over .before .loop .blinds)
+    (over .before .loop .turn) (over .loop-test .left) (over .before .loop .inv)
 
--- the table is not longer than it may be
-short : (c : tie.In-loop Inv-loop μ-loop) → c .before .loop .i < 512
-short c =
-    let start = c .before .before .before in
-    omega (arith, c .loop-test .taken, start .pre .1, start .pre .0 .links .at-most)
+-- the place is one of the table
+short : (c : tie.After-place Inv-loop μ-loop) → c .place .result < 512
+short c = omega (arith, c .place .ensures, c .before .loop-test .taken, fits (c .before .before .before .before .before))
 
 -- the tag of the link is one of the 64
-low : (c : tie.In-loop Inv-loop μ-loop) → getD (c .before .before .before .args .t1 .table .links) (c .before .loop .i) nothing .tag < places
+low : (c : tie.After-place Inv-loop μ-loop) → getD (c .before .before .before .before .before .args .panel .table .links) (c .place .result) nothing .tag < places
 low c =
-    let start = c .before .before .before in
-    tag-low (start .args .value) (start .args .t1) (start .args .start) (after start) (start .pre .0) (places-of start) (start .pre .1)
-    (c .before .loop .i) (c .loop-test .taken)
+    let start = c .before .before .before .before .before in
+    tag-low (start .args .value) (start .args .panel) (start .args .reach .start) (start .args .reach .count) (start .pre .0) (room start) (start .pre .1)
+    (c .place .result) (omega (arith, c .place .ensures, c .before .loop-test .taken))
 
 pub deliver-spec : {M : Type 1} → statement M
 deliver-spec =
@@ -67,17 +62,17 @@ deliver-spec =
     (tie.spec
     Inv-loop
     μ-loop
-    (λ c. omega (arith, c .before .pre .1, c .before .pre .0 .links .at-most))
     loop-holds
+    (λ c κs. (c .loop-test .taken, fits (c .before .before .before .before)))
     (λ c. omega (arith, short c))
     (λ c. omega (arith, short c))
     (λ c. omega (arith, low (c .before .before)))
     (λ c. omega (arith, low (c .before .before)))
-    (λ c. omega (arith, low (c .before .before), c .before .before .before .loop .inv .room))
+    (λ c. omega (arith, low (c .before .before)))
     (λ c κs. search needs)
     (λ c. omega (arith, low (c .before .before .before .before)))
-    (λ c. omega (arith, low (c .before .before .before .before), c .before .before .before .before .before .loop .inv .room))
-    (λ c. omega (arith, short (c .before .before .before .before)))
+    (λ c. omega (arith, low (c .before .before .before .before)))
+    (λ c. omega (arith, fits (c .before .before .before .before .before .before .before .before .before)))
     (λ c. omega arith)
     loop-again
     returns)
