@@ -1,9 +1,9 @@
 /* Times two programs on one workload. Each program is run with the workload's
-   numbers and a number of turns behind them; the time of a turn is the
+   numbers and a number of turns after them; the time of a turn is the
    difference between a long and a short run, so that starting the program and
    building its panel are not counted. Processor time, not time on the wall.
    Rounds alternate between the programs, and each round runs another layout of
-   them: the file of round k has ".k" behind its name. Prints, for each program,
+   them: the file of round k has ".k" after its name. Prints, for each program,
    the median in nanoseconds and half the distance between the quartiles in per
    cent of it.
 

@@ -9,7 +9,7 @@ int printf(const char *format, ...);
 unsigned long long strtoull(const char *text, char **end, int base);
 
 enum {
-    CALLS = 12,
+    CALLS = 13,
     CASES = 5,
     FIRST_EDIT = 6,
     STRIP = 5,
@@ -20,7 +20,7 @@ enum {
 
 enum { AS_IT_IS, OUTSIDE, WRONG_CELLS, BAD_BLINDS, BAD_LINKS };
 
-enum { FRONT = 1, SHARED = 1000, BEFORE = 100, BEHIND = 2000, REST = 500 };
+enum { FRONT = 1, SHARED = 1000, BEFORE = 100, AFTER = 2000, REST = 500 };
 
 static const struct parameters asked = {
     .mudt = 600000, .sst = 200, .rpt = 500, .rwa = 1, .rra = 1, .rfa = 0
@@ -58,7 +58,7 @@ static uint64_t address_of(uint64_t place, uint64_t blinds, uint64_t links)
     if (place < together)
         return SHARED;
     uint64_t lone = place - together;
-    return (lone < lone_before(blinds, links) ? BEFORE : BEHIND) + lone;
+    return (lone < lone_before(blinds, links) ? BEFORE : AFTER) + lone;
 }
 
 static void start_blind(struct panel *panel, uint64_t tag)
@@ -185,8 +185,20 @@ static void removals(struct tally *tally, struct panel *panel, uint64_t tag,
 static void writes(struct tally *tally, struct panel *panel, uint64_t tag,
                    uint64_t turns)
 {
-    for (uint64_t turn = 0; turn < turns; turn++)
+    for (uint64_t turn = 0; turn < turns; turn++) {
         count(tally, write_parameters(panel, tag, asked));
+        panel->blinds[0] = first.blinds[0];
+    }
+}
+
+static void exchanges(struct tally *tally, struct panel *panel, uint64_t tag,
+                      uint64_t turns)
+{
+    for (uint64_t turn = 0; turn < turns; turn++) {
+        count(tally, remove_blind(panel, tag));
+        count(tally, install(panel, tag, tag, asked));
+        panel->blinds[0] = first.blinds[0];
+    }
 }
 
 /* ---- A workload ------------------------------------------------------ */
@@ -214,7 +226,8 @@ static void run_edits(struct tally *tally, struct panel *panel, struct workload 
     case 8: splicings(tally, panel, outside ? TERMINALS : 0, w.turns); break;
     case 9: installs(tally, panel, outside ? TAGS : 0, w.turns); break;
     case 10: removals(tally, panel, outside ? TAGS : 0, w.turns); break;
-    default: writes(tally, panel, outside ? TAGS : 0, w.turns);
+    case 11: writes(tally, panel, outside ? TAGS : 0, w.turns); break;
+    default: exchanges(tally, panel, outside ? TAGS : 0, w.turns);
     }
 }
 

@@ -733,7 +733,7 @@ static size_t a_long_length(void)
     return chance(20) ? ONE_OF(very) : ONE_OF(lengths);
 }
 
-/* Stretches the line: blanks before it, within it or behind it, or zeros
+/* Stretches the line: blanks before it, within it or after it, or zeros
    before its last number. */
 static void stretch(void)
 {

@@ -18,7 +18,7 @@ use Rattle.arguments.specs.Arguments.{most}
 
 -- ---- what the table says
 
--- with a set of parameters behind them the arguments are still not more than are kept
+-- with a set of parameters after them the arguments are still not more than are kept
 small : Entry → Bool
 small entry = leb (entry .plain + setSize) most
 

@@ -36,7 +36,7 @@ fn write_out(bytes: &[u8]) -> usize {
     taken
 }
 
-// A full disk may have taken half a line: the file is cut off where these answers began. What stands behind them is
+// A full disk may have taken half a line: the file is cut off where these answers began. What stands after them is
 // somebody else's, and then nothing is cut off.
 fn take_back(taken: usize) {
     let part = least(taken, SHEET) as i64;

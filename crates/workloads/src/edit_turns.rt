@@ -40,14 +40,35 @@ pub(crate) fn removals(first: Panel, tag: u64, n: u64) -> Tally {
     tally.with_panel(panel)
 }
 
+// Blind 0 gets back what it was after each call, so that the next one finds it not busy.
 pub(crate) fn writes(first: Panel, tag: u64, n: u64) -> Tally {
     let mut panel = first;
     let mut tally = Tally::none();
     let params = asked();
+    let rested = first.blinds[0];
     for _ in 0..n {
         let done = write_params(panel, tag, params);
         panel = done.panel;
+        panel.blinds[0] = rested;
         tally = tally.with(done.answer, done.count);
+    }
+    tally.with_panel(panel)
+}
+
+// A blind is removed and installed again, and blind 0 gets back what it was. Its links go with the first removal.
+pub(crate) fn exchanges(first: Panel, tag: u64, n: u64) -> Tally {
+    let mut panel = first;
+    let mut tally = Tally::none();
+    let params = asked();
+    let rested = first.blinds[0];
+    for _ in 0..n {
+        let removed = remove_blind(panel, tag);
+        panel = removed.panel;
+        tally = tally.with(removed.answer, removed.count);
+        let installed = install(panel, tag, tag, params);
+        panel = installed.panel;
+        panel.blinds[0] = rested;
+        tally = tally.with(installed.answer, installed.count);
     }
     tally.with_panel(panel)
 }

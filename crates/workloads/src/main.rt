@@ -12,7 +12,7 @@ use lines::write_line;
 use workload::Workload;
 
 // How many calls there are, and how many cases.
-const CALLS: u64 = 12;
+const CALLS: u64 = 13;
 
 const CASES: u64 = 5;
 

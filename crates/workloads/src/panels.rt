@@ -18,10 +18,10 @@ pub(crate) const FRONT: u64 = 1;
 // The address of the links that one telegram reaches together.
 pub(crate) const SHARED: u64 = 1000;
 
-// The first addresses of the links that stand alone, before and behind the shared ones.
+// The first addresses of the links that stand alone, before and after the shared ones.
 const BEFORE: u64 = 100;
 
-const BEHIND: u64 = 2000;
+const AFTER: u64 = 2000;
 
 // The rest time of a fresh blind, after which an order starts at once.
 const REST: u64 = 500;
@@ -128,7 +128,7 @@ fn address_of(place: u64, blinds: u64, links: u64) -> u64 {
     if lone < lone_before(blinds, links) {
         wrapping_add_u64(BEFORE, lone)
     } else {
-        wrapping_add_u64(BEHIND, lone)
+        wrapping_add_u64(AFTER, lone)
     }
 }
 

@@ -1,9 +1,10 @@
-// One workload: a call, the case in which it is made, the panel's size and how many turns. A call is one of 12 numbers:
+// One workload: a call, the case in which it is made, the panel's size and how many turns. A call is one of 13 numbers:
 // time steps of 1, 1,000 and 60,000 ms; telegrams to one link and to the shared ones; strip reading; inventory; links
-// added and removed; splices in and out; install; remove blind; write parameters.
+// added and removed; splices in and out; install; remove blind; write parameters; a blind removed and installed.
 use crate::bus_turns::strips;
 use crate::bus_turns::telegrams;
 use crate::bus_turns::time_steps;
+use crate::edit_turns::exchanges;
 use crate::edit_turns::installs;
 use crate::edit_turns::inventories;
 use crate::edit_turns::removals;
@@ -134,7 +135,8 @@ impl Workload {
             8 => splicings(panel, self.or_outside(0, 128), turns),
             9 => installs(panel, self.or_outside(0, 64), turns),
             10 => removals(panel, self.or_outside(0, 64), turns),
-            _ => writes(panel, self.or_outside(0, 64), turns),
+            11 => writes(panel, self.or_outside(0, 64), turns),
+            _ => exchanges(panel, self.or_outside(0, 64), turns),
         }
     }
 

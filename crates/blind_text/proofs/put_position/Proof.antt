@@ -1,4 +1,4 @@
--- The position behind its name, then whether it is valid.
+-- The position after its name, then whether it is valid.
 -- Assumes nothing.
 use mathlib.Core.Path.{ap, _∙_}
 use Rattle.laws.specs.Fills.{tabulate}
