@@ -92,7 +92,7 @@ impl Reach {
     // Where the link stands whose turn it is: they are served in table order.
     fn place(self, turn: usize) -> usize
         requires { ⌜ turn < self .count ⌝ }
-        requires { ⌜ self .start + self .count ≤ 512 ⌝ }
+        requires { ⌜ self .start + self .count ≤ ofLinks.most ⌝ }
         ensures { λ r. ⌜ r ≡ self .start + turn ⌝ }
     {
         self.start + turn
