@@ -1,19 +1,21 @@
 -- Telegrams that do not disturb: a command that is dropped or asks for nothing leaves the blind as it was, and a flag that changes no
 -- duty leaves every other field.
 -- Assumes nothing.
-use mathlib.Core.Path.{_≡_, refl, ap}
+use mathlib.Core.Path.{_≡_, refl, sym, ap, _∙_}
 use mathlib.Core.Bool.{Bool, true, false, cond}
 use mathlib.Core.Logic.{inl, inr}
+use Rattle.laws.proofs.Choices.{cond-has}
 use Rattle.blind.specs.declared.Blind.{Blind}
 use Rattle.blind.specs.Fields.{withFlags}
 use Rattle.inputs.specs.declared.Aim.{Aim}
 use Rattle.inputs.specs.declared.Command.{Command}
 use Rattle.inputs.specs.Inputs.{aimed, followed, sapbp, acted}
-use Rattle.duties.specs.Rulers.{dutyOf, isFree}
+use Rattle.duties.specs.Rulers.{dutyOf, sameDuty, isFree}
 use Rattle.values.specs.declared.Flag.{Flag}
 use Rattle.values.specs.declared.Input.{Input}
 use Rattle.rules.specs.Rules.{ruled, withFlag, flagged, commanded, heeded}
 use Rattle.conduct.specs.Undisturbed.{flagsAfter, SameDuty, Aimless, Idle}
+use Rattle.conduct.proofs.Duties.{equal-duties, rule-duty, acted-rule}
 
 -- ---- under another duty than Free a command changes nothing, and nothing is kept
 
@@ -45,3 +47,14 @@ unfolding heeded
 idle-keeps (Input.Set flag) b e = only-flags flag b e
 idle-keeps (Input.Command command) b (inl e) = dropped command b e
 idle-keeps (Input.Command command) b (inr e) = aimless-keeps command b e
+
+-- under another duty than Free a telegram that leaves the duty as it was does not disturb
+pub unchanged-idle : (input : Input) (b : Blind) → isFree (dutyOf b) ≡ false → dutyOf (heeded input b) ≡ dutyOf b → Idle input b
+unfolding heeded flagged ruled
+unchanged-idle (Input.Command command) b bound same = inl bound
+unchanged-idle (Input.Set flag) b bound same =
+    let b′ : Blind = withFlags (withFlag flag (b .flags)) b in
+    cond-has (λ (x : Blind). dutyOf x ≡ dutyOf b → SameDuty (Input.Set flag) b) (sameDuty (dutyOf b) (dutyOf b′)) _ _
+    (λ e h. e)
+    (λ e h. equal-duties _ _ (sym h ∙ rule-duty b′ _ (acted-rule _ b′)))
+    same

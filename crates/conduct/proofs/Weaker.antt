@@ -134,10 +134,14 @@ below-idle (Input.Set flag) b h = equal-duties _ _ (flag-duty flag b h)
 below-idle (Input.Command command) b h = inl (ruled-duty b (λ e. subst (λ (r : Ruler). Below r 4) e h))
 
 module _ (kind value : ℕ) (b : Blind) (h : Below (rulerOf b) kind) where
-  -- a telegram on a weaker kind leaves every field but the flags, and of these all but its own
-  pub weaker-keeps : heeded (inputOf kind value) b ≡ withFlags (flagsAfter (inputOf kind value) b) b
-  weaker-keeps = idle-keeps (inputOf kind value) b (below-idle (inputOf kind value) b (input-below (rulerOf b) kind value h))
+  -- a telegram on a weaker kind does not disturb
+  pub weaker-idle : Idle (inputOf kind value) b
+  weaker-idle = below-idle (inputOf kind value) b (input-below (rulerOf b) kind value h)
 
-  -- and who ruled rules
-  pub weaker-ruler : rulerOf (withFlags (flagsAfter (inputOf kind value) b) b) ≡ rulerOf b
-  weaker-ruler = below-ruler (inputOf kind value) b (input-below (rulerOf b) kind value h)
+  -- it leaves every field but the flags, and of these all but its own
+  pub weaker-keeps : heeded (inputOf kind value) b ≡ withFlags (flagsAfter (inputOf kind value) b) b
+  weaker-keeps = idle-keeps (inputOf kind value) b weaker-idle
+
+  -- and whoever ruled still rules
+  pub weaker-ruler : rulerOf (heeded (inputOf kind value) b) ≡ rulerOf b
+  weaker-ruler = ap rulerOf weaker-keeps ∙ below-ruler (inputOf kind value) b (input-below (rulerOf b) kind value h)

@@ -21,12 +21,8 @@ use Rattle.blind.specs.Millisecond.{millisecond}
 use Rattle.milliseconds.specs.Milliseconds.{milliseconds}
 use Rattle.milliseconds.proofs.Cutting.{one-first, cut}
 use Rattle.outputs.specs.Reports.{motorOf, busy}
-use Rattle.rules.specs.Rules.{heeded}
-use Rattle.values.specs.Telegrams.{inputOf}
-use Rattle.conduct.proofs.Idle.{idle-keeps}
 use Rattle.conduct.proofs.Undisturbed.{milliseconds-flags}
 use Rattle.conduct.proofs.Phases.{below-or}
-use Rattle.link.specs.declared.Link.{Link}
 use Rattle.panel.specs.Panel.{Model, presentIn, isThere}
 use Rattle.panel.specs.Sound.{Fine}
 use Rattle.panel.specs.Calls.{Cells}
@@ -41,7 +37,7 @@ use Rattle.writes.specs.Writes.{writeRule}
 use Rattle.writes.proofs.Passed.{writable}
 use Rattle.demands.specs.Calls.{Call, telegram, timeStep, strip, install, removeBlind, writeParams, addLink, removeLink, spliceIn, spliceOut, inventory, does}
 use Rattle.demands.specs.Runs.{Turn, Run, Each, after, gives, lasts, lasting, duration}
-use Rattle.demands.specs.Demand2.{Moment, Unheeded, moments, trace}
+use Rattle.demands.specs.Demand2.{Moment, moments, trace}
 use Rattle.demands.specs.Calm.{Calm, Within, motorIn}
 use Rattle.demands.proofs.Seats.{seat-of}
 use Rattle.demands.proofs.Soundness.{kept-fine}
@@ -49,6 +45,7 @@ use Rattle.demands.proofs.Alike.{spared, add-blind, remove-link-blind}
 use Rattle.demands.proofs.BlindSeen.{telegram-seen, step-seen}
 use Rattle.demands.proofs.Pauses.{momentIn, momentsIn}
 use Rattle.demands.proofs.Demand2.{moments-seen}
+use Rattle.demands.proofs.Heard.{heard-unheeded}
 
 -- ---- telegrams that do not disturb
 
@@ -56,16 +53,6 @@ use Rattle.demands.proofs.Demand2.{moments-seen}
 pub record Reflagged (b b′ : Blind) : Type 0 where
   pub flags : Flags
   pub same : b′ ≡ withFlags flags b
-
-unheeded-keeps : (value : ℕ) (links : List Link) (b : Blind) → Unheeded value links b → Reflagged b (heardBy value links b)
-unfolding heardBy
-unheeded-keeps value [] b u = record { flags = b .flags; same = refl }
-unheeded-keeps value (link ∷ links) b u =
-    let rest = unheeded-keeps value links (heeded (inputOf (link .kind) value) b) (u .1) in
-    record {
-      flags = rest .flags;
-      same = rest .same ∙ ap (withFlags (rest .flags)) (idle-keeps (inputOf (link .kind) value) b (u .0));
-    }
 
 -- what a telegram makes of a blind that it does not disturb, done or refused
 pub calm-telegram : (tag : ℕ) (b : Blind) (m : Model) (cells : Cells) (address value : ℕ)
@@ -75,7 +62,7 @@ calm-telegram tag b m cells address value calm here = go (eqb (does (telegram ad
   where
     go : (done : Bool) → eqb (does (telegram address value) m cells .answer) 0 ≡ done
         → Reflagged b (cond done (heardBy value (reached tag address m) b) b)
-    go true e = unheeded-keeps value (reached tag address m) b (calm address value b refl (eqb-true _ 0 e) here)
+    go true e = record { flags = _; same = heard-unheeded value (reached tag address m) b (calm address value b refl (eqb-true _ 0 e) here) }
     go false e = record { flags = b .flags; same = refl }
 
 -- ---- calls that let no time pass

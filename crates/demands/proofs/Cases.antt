@@ -44,7 +44,8 @@ use Rattle.splices.specs.Splices.{offStrip, shifted, raised, spliceInRule}
 use Rattle.panel.specs.Panel.{bare}
 use Rattle.demands.specs.Runs.{motorSeen}
 use Rattle.demands.specs.Whole.{whole, sameList, samePanel}
-use Rattle.demands.specs.Cases.{right, cases, allRight, r3, story}
+use Rattle.demands.specs.Looks.{right}
+use Rattle.demands.specs.Cases.{cases, allRight, r3, story}
 
 -- "W1 to W12 are shown to follow from the rules, as one list with one claim over it."
 pub cases-right : allRight ≡ true

@@ -1,7 +1,8 @@
 -- Every call, done or refused, leaves a sound panel sound, and a sound panel is never answered 12.
 -- Assumes nothing.
 use Prim.Native.Nat.{ℕ}
-use mathlib.Core.Path.{_≡_, sym, ap, _∙_, subst}
+use mathlib.Core.Path.{_≡_, refl, sym, ap, _∙_, subst}
+use mathlib.Core.List.{[], _∷_}
 use lib.ListN.{length}
 use Rattle.table.specs.Links.{linksTo}
 use mathlib.Core.Bool.{Bool, true, not, _||_, true≢false}
@@ -11,10 +12,11 @@ use Rattle.laws.specs.Every.{every}
 use Rattle.answers.specs.Answers.{refusal}
 use Rattle.answers.proofs.Refusals.{refusal-has}
 use Rattle.answers.proofs.Rules.{answer-is, leaves-has}
-use Rattle.panel.specs.Panel.{Model, eachSeat}
+use Rattle.panel.specs.Panel.{Model, bare, eachSeat}
 use Rattle.panel.specs.Sound.{Sound, Fine, isSound}
 use Rattle.panel.specs.Calls.{Cells, checks, lentChecks}
 use Rattle.panel.proofs.Decides.{sound-tested}
+use Rattle.panel.proofs.Kept.{bare-sound}
 use Rattle.telegrams.specs.Telegrams.{linkChecks, afterTelegram, telegramRule}
 use Rattle.time_steps.specs.TimeSteps.{afterStep, stepRule}
 use Rattle.telegrams.proofs.Locality.{delivered-table}
@@ -33,6 +35,7 @@ use Rattle.wiring.proofs.Soundness.{add-keeps, remove-link-keeps}
 use Rattle.splices.specs.Splices.{spliceInRule, spliceOutRule}
 use Rattle.splices.proofs.Soundness.{splice-in-keeps, splice-out-keeps}
 use Rattle.demands.specs.Calls.{Call, telegram, timeStep, strip, install, removeBlind, writeParams, addLink, removeLink, spliceIn, spliceOut, inventory, ruleOf, does}
+use Rattle.demands.specs.Runs.{Run, after}
 
 -- a call that is done keeps what a sound panel is
 keeps : (call : Call) (m : Model) (cells : Cells) → Fine m → refusal (ruleOf call .checks m cells) ≡ 0 → Fine (ruleOf call .leaves m)
@@ -53,6 +56,15 @@ keeps inventory m cells f e = f
 -- Every call keeps a sound panel sound.
 pub kept-fine : (call : Call) (m : Model) (cells : Cells) → Fine m → Fine (does call m cells .leaves)
 kept-fine call m cells f = leaves-has (ruleOf call) m cells Fine f (keeps call m cells f)
+
+-- The panel without blinds and links is sound, and so is every panel that calls make of a sound one.
+pub bare-fine : Fine bare
+bare-fine = record { sound = bare-sound; full = refl }
+
+pub after-fine : (run : Run) (m : Model) → Fine m → Fine (after run m)
+unfolding after
+after-fine [] m fine = fine
+after-fine (turn ∷ run) m fine = after-fine run _ (kept-fine (turn .call) m (turn .cells) fine)
 
 -- ---- a sound panel is never answered 12
 

@@ -4,6 +4,7 @@ pub mod Demand1
 pub mod Demand3
 pub mod Demand2
 pub mod Whole
+pub mod Looks
 pub mod Cases
 pub mod Afresh
 pub mod Chain

@@ -3,8 +3,10 @@
 -- Assumes nothing.
 use Prim.Native.Nat.{ℕ, zero, suc, _<_}
 use mathlib.Core.Path.{_≡_}
+use mathlib.Core.Bool.{cond}
 use mathlib.Core.List.{List, [], _∷_, _++_}
 use mathlib.Core.Option.{some}
+use lib.Dec.{eqb}
 use Rattle.heights.specs.declared.Direction.{Direction}
 use Rattle.blind.specs.declared.Flags.{Flags}
 use Rattle.blind.specs.declared.Blind.{Blind}
@@ -21,10 +23,11 @@ use Rattle.conduct.specs.Obeys.{HasOrder}
 use Rattle.conduct.specs.Weaker.{Below}
 use Rattle.link.specs.declared.Link.{Link}
 use Rattle.panel.specs.Panel.{Model}
+use Rattle.panel.specs.Calls.{Cells}
 use Rattle.telegrams.specs.Locality.{reached, heardBy}
 use Rattle.time_steps.specs.TimeSteps.{afterStep}
 use Rattle.seats.specs.Untouched.{blindAt}
-use Rattle.demands.specs.Calls.{Call, telegram, writeParams}
+use Rattle.demands.specs.Calls.{Call, telegram, writeParams, does}
 use Rattle.demands.specs.Runs.{Turn, Run, gives, lasting, motorSeen}
 
 -- ---- "the motor never runs against it"
@@ -87,13 +90,15 @@ SetFlags (link ∷ links) = (link .kind < mud) × SetFlags links
 abbrev pub Uncommanded : ℕ → Turn → Model → Type 0
 Uncommanded tag turn m = (address value : ℕ) → turn .call ≡ telegram address value → SetFlags (reached tag address m)
 
--- Of some links, one after the other, the first ones leave the blind with the order of the duty that it has after all of them.
+-- Of some links, one after the other, one is the last to change the duty, and it gives the blind the order of the duty that is new.
 pub record Given (value : ℕ) (links : List Link) (b : Blind) : Type 0 where
   pub first : List Link
+  pub link : Link
   pub rest : List Link
-  pub all : links ≡ first ++ rest
-  pub order : HasOrder (heardBy value first b)
-  pub duty : dutyOf (heardBy value first b) ≡ dutyOf (heardBy value links b)
+  pub all : links ≡ first ++ link ∷ rest
+  pub changes : dutyOf (heeded (inputOf (link .kind) value) (heardBy value first b)) ≡ dutyOf (heardBy value first b) → ⊥
+  pub order : HasOrder (heeded (inputOf (link .kind) value) (heardBy value first b))
+  pub last : Shifts value rest (heeded (inputOf (link .kind) value) (heardBy value first b)) → ⊥
 
 -- ---- "a weaker alarm or forced input below the ruling one changes its flag and no motion"
 
@@ -106,3 +111,9 @@ AllBelow ruler (link ∷ links) = Below ruler (link .kind) × AllBelow ruler lin
 unfoldable pub flagsBy : ℕ → List Link → Blind → Flags
 flagsBy value [] b = b .flags
 flagsBy value (link ∷ links) b = flagsBy value links (withFlags (flagsAfter (inputOf (link .kind) value) b) b)
+
+-- After a telegram the blind of a tag has the flags that its links set, if it was accepted, and every other field as it was.
+abbrev pub OnlyFlags : ℕ → Blind → Model → Cells → ℕ → ℕ → Type 0
+OnlyFlags tag b m cells address value =
+    blindAt tag (does (telegram address value) m cells .leaves)
+    ≡ some (withFlags (cond (eqb (does (telegram address value) m cells .answer) 0) (flagsBy value (reached tag address m) b) (b .flags)) b)
