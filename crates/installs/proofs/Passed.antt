@@ -1,11 +1,11 @@
 -- What is so of install where no check refuses. Assumes nothing.
-use Prim.Native.Nat.{ℕ, _+_, _≤_, _<_}
-use mathlib.Core.Path.{_≡_, ap, ap₂, _∙_}
-use mathlib.Core.Bool.{Bool, true, false, not, _||_}
+use Prim.Native.Nat.{ℕ, _+_, _<_}
+use mathlib.Core.Path.{_≡_, ap, _∙_}
+use mathlib.Core.Bool.{Bool, true, false, not, _||_, or-assoc}
 use mathlib.Core.List.{List, [], _∷_}
 use lib.Dec.{leb}
-use borrow.Author.Tests.{le-leb, lt-leb, leb-false, not-false}
-use Rattle.laws.proofs.Any.{either-left, either-right, neither-left, neither-right}
+use borrow.Author.Tests.{leb-false, not-false}
+use Rattle.laws.proofs.Any.{neither-left, neither-right}
 use Rattle.answers.specs.Answers.{refusal}
 use Rattle.answers.proofs.Refusals.{all-passed}
 use Rattle.params.specs.Numbers.{allowed}
@@ -28,19 +28,11 @@ module _ (tag terminal : ℕ) (a : List ℕ) where
     pub terminal-low : terminal < terminals
     pub fair : allowed a ≡ true
 
-  -- the tag is, the terminal, or a number of the set
-  pub beyond-tag : places ≤ tag → beyond ≡ true
-  beyond-tag h = either-left (leb places tag) _ (le-leb places tag h)
-
-  pub beyond-terminal : terminals ≤ terminal → beyond ≡ true
-  beyond-terminal h = either-right (leb places tag) _ (either-left (leb terminals terminal) _ (le-leb terminals terminal h))
-
-  pub beyond-asked : not (allowed a) ≡ true → beyond ≡ true
-  beyond-asked e = either-right (leb places tag) _ (either-right (leb terminals terminal) (not (allowed a)) e)
-
-  -- none of them
-  pub within : tag < places → terminal < terminals → not (allowed a) ≡ false → beyond ≡ false
-  within h k e = ap₂ (λ (t s : Bool). t || (s || not (allowed a))) (lt-leb places tag h) (lt-leb terminals terminal k) ∙ e
+  -- the three tests in a row, by what is known of the set
+  pub beyond-told : (fair : Bool) → fair ≡ allowed a → (leb places tag || leb terminals terminal || not fair) ≡ beyond
+  beyond-told fair e =
+      or-assoc (leb places tag) (leb terminals terminal) (not fair)
+      ∙ ap (λ (b : Bool). leb places tag || (leb terminals terminal || not b)) e
 
   pub inside : beyond ≡ false → Inside
   inside e =

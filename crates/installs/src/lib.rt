@@ -64,16 +64,11 @@ pub fn install(mut panel: Panel, tag: u64, terminal: u64, asked: Asked) -> Answe
 fn judge_new(sound: bool, present: Tags, tag: u64, terminal: u64, asked: Asked) -> u8
     ensures { λ r. ⌜ r ≡ refusal ((not sound, 12) ∷ outside (leb places tag || (leb terminals terminal || not (allowed (rowOf asked)))) ∷ (tagsOf present tag, 4) ∷ []) ⌝ }
 {
+    let out = (PLACES <= tag) | (TERMINALS <= terminal) | !asked.in_range();
     if !sound {
         return NOT_SOUND;
     }
-    if PLACES <= tag {
-        return OUT_OF_RANGE;
-    }
-    if TERMINALS <= terminal {
-        return OUT_OF_RANGE;
-    }
-    if !asked.in_range() {
+    if out {
         return OUT_OF_RANGE;
     }
     if present.has(tag) {
