@@ -1,7 +1,8 @@
 -- W1 to W12, R3 and the caretaker's story, by computation from the definitions.
 -- Assumes nothing.
 use mathlib.Core.Path.{_≡_, refl}
-use mathlib.Core.Bool.{true}
+use mathlib.Core.Bool.{true, _&&_}
+use Rattle.laws.proofs.Choices.{both-left, both-right}
 use Rattle.answers.specs.Answers.{first}
 use Rattle.answers.specs.Rules.{carried}
 use Rattle.laws.specs.Fills.{tabulate}
@@ -47,17 +48,22 @@ use Rattle.demands.specs.Whole.{whole, sameList, samePanel}
 use Rattle.demands.specs.Looks.{right}
 use Rattle.demands.specs.Cases.{cases, allRight, r3, story}
 
+-- all scripts at once, so that what is computed stands once
+all-right : (allRight && (right r3 bare && right story bare)) ≡ true
+unfolding allRight cases right whole sameList samePanel first carried tabulate every distinct there any kept howMany lowestFree reactionOf numbersOf paramsOf allowed defaults within timesInRange inRange fullTime bottom nextPlace endOf target wayTo part told started orderedOff orderedRunning orderedAt ordered motorOff stoppedAt stopped freshOf moved arrived shorter ran waited millisecondAt millisecond milliseconds motorOf active busy report soundWait soundRunning soundMotion sound mud ssud towards aimedBetween aimed followed sapbp acted rulerOf dutyUnder dutyOf ruled flagged commanded heeded commandOf inputOf classOf linkInRange keyOf mayFollow linksTo addressClass inOrder tableSound isIn inserted isFirst movedAmong otherClass noLinkTo movedLinks presentIn reseated eachSeat seatsIn soundSeat soundSeats allNamed isSound checks lentChecks reports isOutside linkChecks served delivered afterTelegram telegramRule afterStep stepRule commandAt commands stripRule someSeat inUse busyFrom wouldPass installRule addRule offStrip shifted raised spliceInRule motorSeen
+all-right = refl
+
 -- "W1 to W12 are shown to follow from the rules, as one list with one claim over it."
 pub cases-right : allRight ≡ true
-unfolding allRight cases right whole sameList samePanel first carried tabulate every distinct there any kept howMany lowestFree reactionOf numbersOf paramsOf allowed defaults within timesInRange inRange fullTime bottom nextPlace endOf target wayTo part told started orderedOff orderedRunning orderedAt ordered motorOff stoppedAt stopped freshOf moved arrived shorter ran waited millisecondAt millisecond milliseconds motorOf active busy report soundWait soundRunning soundMotion sound mud ssud towards aimedBetween aimed followed sapbp acted rulerOf dutyUnder dutyOf ruled flagged commanded heeded commandOf inputOf classOf linkInRange keyOf mayFollow linksTo addressClass inOrder tableSound isIn inserted isFirst movedAmong otherClass noLinkTo movedLinks presentIn reseated eachSeat seatsIn soundSeat soundSeats allNamed isSound checks lentChecks reports isOutside linkChecks served delivered afterTelegram telegramRule afterStep stepRule commandAt commands stripRule someSeat inUse busyFrom wouldPass installRule addRule offStrip shifted raised spliceInRule motorSeen
-cases-right = refl
+cases-right = both-left allRight (right r3 bare && right story bare) all-right
+
+others-right : (right r3 bare && right story bare) ≡ true
+others-right = both-right allRight (right r3 bare && right story bare) all-right
 
 -- Each link of a telegram speaks to the blind as the link before left it, in table order.
 pub r3-right : right r3 bare ≡ true
-unfolding right first carried tabulate every distinct there any kept howMany lowestFree reactionOf numbersOf paramsOf allowed defaults within timesInRange inRange fullTime bottom nextPlace endOf target wayTo part told started orderedOff orderedRunning orderedAt ordered motorOff stoppedAt stopped freshOf moved arrived shorter ran waited millisecondAt millisecond milliseconds motorOf active busy report soundWait soundRunning soundMotion sound mud ssud towards aimedBetween aimed followed sapbp acted rulerOf dutyUnder dutyOf ruled flagged commanded heeded commandOf inputOf classOf linkInRange keyOf mayFollow linksTo addressClass inOrder tableSound isIn inserted isFirst movedAmong otherClass noLinkTo movedLinks presentIn reseated eachSeat seatsIn soundSeat soundSeats allNamed isSound checks lentChecks reports isOutside linkChecks served delivered afterTelegram telegramRule afterStep stepRule commandAt commands stripRule someSeat inUse busyFrom wouldPass installRule addRule offStrip shifted raised spliceInRule motorSeen
-r3-right = refl
+r3-right = both-left (right r3 bare) (right story bare) others-right
 
 -- Only the west goes up under its wind alarm; the south, at its new terminal, hears only what is its own.
 pub story-right : right story bare ≡ true
-unfolding right first carried tabulate every distinct there any kept howMany lowestFree reactionOf numbersOf paramsOf allowed defaults within timesInRange inRange fullTime bottom nextPlace endOf target wayTo part told started orderedOff orderedRunning orderedAt ordered motorOff stoppedAt stopped freshOf moved arrived shorter ran waited millisecondAt millisecond milliseconds motorOf active busy report soundWait soundRunning soundMotion sound mud ssud towards aimedBetween aimed followed sapbp acted rulerOf dutyUnder dutyOf ruled flagged commanded heeded commandOf inputOf classOf linkInRange keyOf mayFollow linksTo addressClass inOrder tableSound isIn inserted isFirst movedAmong otherClass noLinkTo movedLinks presentIn reseated eachSeat seatsIn soundSeat soundSeats allNamed isSound checks lentChecks reports isOutside linkChecks served delivered afterTelegram telegramRule afterStep stepRule commandAt commands stripRule someSeat inUse busyFrom wouldPass installRule addRule offStrip shifted raised spliceInRule motorSeen
-story-right = refl
+story-right = both-right (right r3 bare) (right story bare) others-right

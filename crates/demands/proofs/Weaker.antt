@@ -1,5 +1,5 @@
--- What is weaker than the ruler of a blind: its telegram changes its flag and no motion. And nothing else does under a duty that
--- rules, as long as the duty stays.
+-- What is weaker than the ruler of a blind: its telegram changes its flag and no motion. Under a duty that rules, every telegram that
+-- changes no duty does no more than that.
 -- Assumes nothing.
 use Prim.Native.Nat.{ℕ}
 use mathlib.Core.Path.{_≡_, refl, sym, ap, _∙_, subst}

@@ -1,4 +1,5 @@
--- Document 01, "Cases by number": W1 to W12 as scripts of calls on the panel, with what is seen after them. `cases` is the one list.
+-- Document 01, "Cases by number": W1 to W12 as scripts of calls on the panel, with what is seen after them; `cases` is the one list. Beside
+-- them R3, and the caretaker's story.
 -- Assumes nothing.
 use Prim.Native.Nat.{ℕ, _+_}
 use mathlib.Core.Bool.{Bool}

@@ -1,4 +1,5 @@
--- The link of a turn stands that many places after the first.
+-- The link of a turn stands that many places after the first. Rattle finds that by itself; it stands here so that a wrong place is refused
+-- at this function and not at its caller.
 use native.Mathlib.Omega.{arith}
 use mathlib.Core.Path.{refl}
 use Rattle.telegrams.proofs.Reach.place.Statement.{statement}
