@@ -4,7 +4,7 @@ use Prim.Native.Nat.{ℕ, zero, suc, _<_}
 use native.Mathlib.Omega.{arith}
 use mathlib.Core.Path.{subst, subst₂}
 use mathlib.Core.List.{List, [], _∷_, _++_, List·Permᴰ, List·Permᴰ·nil, List·Permᴰ·cons, List·Permᴰ·swap, List·Permᴰ·trans}
-use lib.ListN.{length, getD, drop}
+use lib.ListN.{length, getD}
 
 -- P holds of each element
 pub data Each {A : Type 0} (P : A → Type 0) : List A → Type 0 where
@@ -62,11 +62,6 @@ module _ {A : Type 0} (R : A → A → Type 0) where
   pairs-of [] d f = tt
   pairs-of (x ∷ xs) d f =
       (each-of xs d (λ j h. f 0 (suc j) (omega arith) (omega arith)), pairs-of xs d (λ i j h k. f (suc i) (suc j) (omega arith) (omega arith)))
-
-  pub pairs-drop : (n : ℕ) (xs : List A) → Pairs R xs → Pairs R (drop n xs)
-  pairs-drop zero xs r = r
-  pairs-drop (suc n) [] r = r
-  pairs-drop (suc n) (x ∷ xs) r = pairs-drop n xs (r .1)
 
   pub pairs-right : (xs ys : List A) → Pairs R (xs ++ ys) → Pairs R ys
   pairs-right [] ys r = r

@@ -1,6 +1,6 @@
 -- The class of an address: what the link says where the search for the address ended, and what it says of a new link.
 -- Assumes nothing.
-use Prim.Native.Nat.{ℕ, _*_, _≤_, _<_}
+use Prim.Native.Nat.{ℕ, _≤_, _<_}
 use native.Mathlib.Omega.{arith}
 use native.Mathlib.Decide.{ℕ-discrete}
 use mathlib.Core.Path.{_≡_, refl, sym, ap, _∙_}
@@ -12,29 +12,19 @@ use borrow.Author.Tests.{lt-ltb, le-ltb, eq-eqb, ne-eqb, eqb-true, eqb-false}
 use Rattle.kinds.specs.Kinds.{classOf}
 use Rattle.kinds.proofs.Classes.{class-some}
 use Rattle.link.specs.declared.Link.{Link}
-use Rattle.link.specs.Link.{keyOf, nothing}
-use Rattle.link.proofs.Ranges.{InRange}
-use Rattle.link.proofs.Keys.{key-under}
+use Rattle.link.specs.Link.{nothing}
 use Rattle.link.proofs.Neighbours.{Agree}
 use Rattle.laws.proofs.Each.{Each, first, rest, Pairs, each-map}
-use Rattle.laws.proofs.Kept.{kept-same}
-use Rattle.table.specs.Links.{rank, startOf, addressClass}
+use Rattle.table.specs.Links.{startOf, addressClass}
 use Rattle.table.proofs.Sound.{Fine}
 use Rattle.table.proofs.Spans.{addresses-up, class-at-start, class-shared}
 use Rattle.links.specs.Edits.{otherClass}
 
 -- ---- from the place where the search ended
 
--- the search by the first key of an address finds where the address starts
-pub start-searched : (address : ℕ) (ls : List Link) → Each InRange ls → rank keyOf (address * 65536) ls ≡ startOf address ls
-unfolding startOf rank
-start-searched address ls r =
-    ap length (kept-same (λ l. ltb (keyOf l) (address * 65536)) (λ l. ltb (l .address) address) ls (each-map (λ l s. key-under l address s) r))
-
-module _ (l : Link) (ls : List Link) (fine : Fine ls) {s : ℕ} (searched : s ≡ rank keyOf (l .address * 65536) ls) where
+module _ (l : Link) (ls : List Link) (fine : Fine ls) {s : ℕ} (searched : s ≡ startOf (l .address) ls) where
   class-there : addressClass (l .address) ls ≡ cond (ltb s (length ls) && eqb (getD ls s nothing .address) (l .address)) (classOf (getD ls s nothing .kind)) 0
-  class-there =
-      rw (sym (searched ∙ start-searched (l .address) ls (fine .ranged))) at (class-at-start (l .address) ls (addresses-up ls (fine .ranged) (fine .ascends)))
+  class-there = rw (sym searched) at (class-at-start (l .address) ls (addresses-up ls (fine .ranged) (fine .ascends)))
 
   pub other-past : length ls ≤ s → false ≡ otherClass l ls
   unfolding otherClass

@@ -14,7 +14,6 @@ ghost use Rattle.link.specs.Link.{keyOf};
 ghost use Rattle.table.specs.Links.{rank, heldOf, holding};
 ghost use Rattle.table.specs.Sound.{most, isSound};
 ghost use Rattle.links.specs.Edits.{addChecks, tableAdd, tableRemove, edited, editedOf};
-use crate::search::below;
 use crate::search::holds;
 use crate::search::other_class;
 use answers::ALREADY_THERE;
@@ -111,7 +110,7 @@ pub fn add(table: Table, link: Link) -> Edited
             table,
         };
     }
-    let place = below(table, link.key());
+    let place = table.below(link.key());
     let answer = judge_new(table, link, place);
     if answer != DONE {
         return Edited {
@@ -140,7 +139,7 @@ pub fn remove(table: Table, link: Link) -> Edited
             table,
         };
     }
-    let place = below(table, link.key());
+    let place = table.below(link.key());
     if !holds(table, link, place) {
         return Edited {
             answer: NO_LINK,

@@ -1,5 +1,5 @@
-// The one search in a table, and what it tells of a link: whether it is there, and whether its address has another class.
-// All of it may be asked of a sound table only.
+// What the search in a table tells of a link: whether it is there, and whether its address has another class. Both may be
+// asked of a sound table only.
 
 ghost use mathlib.Core.Path.{_≡_};
 ghost use mathlib.Core.Bool.{true};
@@ -11,23 +11,6 @@ use kinds::class_of_kind;
 use link::ADDRESS_STEP;
 use link::Link;
 use table::Table;
-
-// How many links stand below a key: the one search. The links ascend, so it ends at the first that is not below.
-pub(crate) fn below(table: Table, key: u64) -> usize
-    requires { ⌜ isSound (heldOf table) ≡ true ⌝ }
-    ensures { λ r. ⌜ r ≡ rank keyOf key (heldOf table .links) ⌝ }
-{
-    let count = table.count;
-    let mut i = 0;
-    while i < count {
-        let here = table.links[i];
-        if key <= here.key() {
-            return i;
-        }
-        i += 1;
-    }
-    i
-}
 
 // Whether a link stands at the place where the search for it ended.
 pub(crate) fn holds(table: Table, link: Link, place: usize) -> bool
@@ -48,7 +31,7 @@ pub(crate) fn other_class(table: Table, link: Link) -> bool
     requires { ⌜ isSound (heldOf table) ≡ true ⌝ }
     ensures { λ r. ⌜ r ≡ otherClass link (heldOf table .links) ⌝ }
 {
-    let start = below(table, link.address as u64 * ADDRESS_STEP);
+    let start = table.below(link.address as u64 * ADDRESS_STEP);
     let count = table.count;
     if count <= start {
         return false;

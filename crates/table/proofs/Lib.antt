@@ -3,3 +3,4 @@ pub mod Sound
 pub mod Misfits
 pub mod Spans
 pub mod Stores
+pub mod Halving

@@ -1,16 +1,15 @@
--- Lists that ascend by a key: how many elements stand below a key, and what a walk from the front says of that number.
+-- Lists that ascend by a key: how many elements stand below a key, and what one element says of that number.
 -- All by recursion on the list. Assumes nothing.
-use Prim.Native.Nat.{ℕ, suc, _+_, _≤_, _<_}
+use Prim.Native.Nat.{ℕ, zero, suc, _≤_, _<_}
 use native.Mathlib.Omega.{arith}
-use native.Mathlib.Numerals.{add-one}
-use mathlib.Core.Path.{_≡_, sym, ap, _∙_, subst}
+use native.Mathlib.Decide.{decLt}
+use mathlib.Core.Path.{_≡_, ap}
 use mathlib.Core.List.{List, [], _∷_}
-use lib.ListN.{length, getD, drop}
-use lib.Seq.{drop-cons}
+use lib.ListN.{length, getD}
 use lib.Dec.{ltb}
 use borrow.Author.Tests.{lt-ltb, le-ltb}
 use Rattle.table.specs.Links.{rank}
-use Rattle.laws.proofs.Each.{Each, none, more, Pairs, pairs-drop, each-map}
+use Rattle.laws.proofs.Each.{Each, more, Pairs, each-at, each-map}
 use Rattle.laws.proofs.Kept.{kept-yes, kept-none, kept-length}
 
 -- each element is below all after it
@@ -37,24 +36,23 @@ module _ {A : Type 0} (key : A → ℕ) where
   unfolding rank
   rank-bounded k xs = kept-length (λ y. ltb (key y) k) xs
 
-  -- a walk from the front: the elements passed, and those below the key in what is left, are all below the key
-  pub rank-more : (k : ℕ) (xs : List A) (d : A) (i r : ℕ) → i < length xs → key (getD xs i d) < k
-      → i + rank key k (drop i xs) ≡ r → i + 1 + rank key k (drop (i + 1) xs) ≡ r
-  rank-more k xs d i r h below e =
-      let one : rank key k (drop i xs) ≡ suc (rank key k (drop (i + 1) xs)) =
-      ap (rank key k) (drop-cons xs i d h) ∙ rank-below k (getD xs i d) (drop (suc i) xs) below
-      ∙ ap (λ (n : ℕ). suc (rank key k (drop n xs))) (sym (add-one i)) in
-      omega arith
+  -- in a list that ascends an element below the key stands before the place that the number tells, and one that is not below does not
+  pub rank-reaches : (k : ℕ) (xs : List A) (d : A) (i : ℕ) → Asc key xs → i < length xs → key (getD xs i d) < k → i < rank key k xs
+  rank-reaches k [] d i asc h low = absurd (omega arith)
+  rank-reaches k (x ∷ xs) d zero asc h low = rw (rank-below k x xs low) (omega arith)
+  rank-reaches k (x ∷ xs) d (suc i) asc h low =
+      let above : key x < key (getD xs i d) = each-at xs d i (omega arith) (asc .0) in
+      let further : i < rank key k xs = rank-reaches k xs d i (asc .1) (omega arith) low in
+      rw (rank-below k x xs (omega arith)) (omega arith)
 
-  pub rank-stop : (k : ℕ) (xs : List A) (d : A) (i r : ℕ) → Asc key xs → i < length xs → k ≤ key (getD xs i d)
-      → i + rank key k (drop i xs) ≡ r → i ≡ r
-  rank-stop k xs d i r a h above e =
-      let zeroes : rank key k (drop i xs) ≡ 0 =
-      ap (rank key k) (drop-cons xs i d h)
-      ∙ rank-first k (getD xs i d) (drop (suc i) xs) (subst (Asc key) (drop-cons xs i d h) (pairs-drop (λ x y. key x < key y) i xs a)) above in
-      omega arith
-
-  pub rank-end : (k : ℕ) (xs : List A) (i r : ℕ) → length xs ≤ i → i + rank key k (drop i xs) ≡ r → i ≡ r
-  rank-end k xs i r h e =
-      let zeroes : rank key k (drop i xs) ≡ 0 = ap (rank key k) (lib.ListN.drop-of-length-le xs h) ∙ rank-none k [] none in
-      omega arith
+  pub rank-ends : (k : ℕ) (xs : List A) (d : A) (i : ℕ) → Asc key xs → i < length xs → k ≤ key (getD xs i d) → rank key k xs ≤ i
+  rank-ends k [] d i asc h high = absurd (omega arith)
+  rank-ends k (x ∷ xs) d i asc h high = go (decLt (key x) k) i h high (rank-ends k xs d)
+    where
+      go : Dec (key x < k) → (i : ℕ) → i < length (x ∷ xs) → k ≤ key (getD (x ∷ xs) i d)
+          → ((i : ℕ) → Asc key xs → i < length xs → k ≤ key (getD xs i d) → rank key k xs ≤ i) → rank key k (x ∷ xs) ≤ i
+      go (yes low) zero h high ih = absurd (omega arith)
+      go (yes low) (suc i) h high ih =
+          let further : rank key k xs ≤ i = ih i (asc .1) (omega arith) high in
+          rw (rank-below k x xs low) (omega arith)
+      go (no not-low) i h high ih = rw (rank-first k x xs asc (omega arith)) (omega arith)

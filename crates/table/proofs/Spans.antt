@@ -1,6 +1,6 @@
 -- The links of an address: in a list whose addresses do not fall they stand together, after those of all lower addresses.
 -- First over any measure of the elements, by recursion on the list; then for links. Assumes nothing.
-use Prim.Native.Nat.{ℕ, suc, _+_, _≤_, _<_}
+use Prim.Native.Nat.{ℕ, suc, _+_, _*_, _≤_, _<_}
 use native.Mathlib.Omega.{arith}
 use native.Mathlib.Decide.{decLt, ℕ-discrete}
 use mathlib.Core.Path.{_≡_, refl, sym, ap, _∙_}
@@ -15,10 +15,10 @@ use Rattle.table.specs.Links.{rank, linksTo, noLinkTo, startOf, addressC
 use Rattle.link.specs.Link.{keyOf, nothing}
 use Rattle.kinds.specs.Kinds.{classOf}
 use Rattle.laws.proofs.Each.{Each, none, more, first, rest, Pairs, each-map}
-use Rattle.laws.proofs.Kept.{kept-yes, kept-not, kept-none}
+use Rattle.laws.proofs.Kept.{kept-yes, kept-not, kept-none, kept-same}
 use Rattle.table.proofs.Ranks.{Asc, rank-below, rank-none}
 use Rattle.link.proofs.Ranges.{InRange}
-use Rattle.link.proofs.Keys.{key-address}
+use Rattle.link.proofs.Keys.{key-address, key-under}
 use Rattle.kinds.proofs.Classes.{class-some}
 use Rattle.table.proofs.Sound.{Fine}
 use Rattle.link.proofs.Neighbours.{Agree}
@@ -79,6 +79,12 @@ addresses-up (l ∷ ls) r asc = (up l ls (rest r) (asc .0), addresses-up ls (res
     up : (l : Link) (ls : List Link) → Each InRange ls → Each (λ y. keyOf l < keyOf y) ls → Each (λ y. l .address ≤ y .address) ls
     up l [] r h = none
     up l (y ∷ ys) r h = more (key-address l y (first r) (first h)) (up l ys (rest r) (rest h))
+
+-- an address starts after all links below its first key
+pub start-key : (address : ℕ) (ls : List Link) → Each InRange ls → rank keyOf (address * 65536) ls ≡ startOf address ls
+unfolding startOf rank
+start-key address ls r =
+    ap length (kept-same (λ l. ltb (keyOf l) (address * 65536)) (λ l. ltb (l .address) address) ls (each-map (λ l s. key-under l address s) r))
 
 -- from where the address starts, as many links as it has are its links, in table order
 pub links-found : (address : ℕ) (ls : List Link) → Fine ls → take (length (linksTo address ls)) (drop (startOf address ls) ls) ≡ linksTo address ls

@@ -1,6 +1,5 @@
 pub mod Ranges
 pub mod Found
-pub mod Halving
 pub mod Reached
 pub mod Delivery
 pub mod Soundness

@@ -1,6 +1,6 @@
 -- The links that a telegram reaches: where those of its address stand in a sound table, and what 5 and 6 are answered by.
 -- Assumes nothing.
-use Prim.Native.Nat.{ℕ, zero, suc, _+_, _≤_, _<_}
+use Prim.Native.Nat.{ℕ, zero, suc, _+_, _-_, _*_, _≤_, _<_}
 use native.Mathlib.Omega.{arith}
 use mathlib.Core.Path.{_≡_, refl, sym, ap, ap₂, _∙_}
 use mathlib.Core.Bool.{Bool, true, false, cond, _&&_}
@@ -17,22 +17,40 @@ use Rattle.kinds.specs.Kinds.{classOf}
 use Rattle.table.specs.Links.{heldOf, linksTo, noLinkTo, startOf, addressClass}
 use Rattle.link.specs.Link.{nothing}
 use Rattle.table.specs.Sound.{isSound}
+use Rattle.table.specs.Search.{searched}
+use Rattle.table.proofs.Ranks.{rank-bounded}
 use Rattle.table.proofs.Sound.{Fine, sound-reads}
+use Rattle.table.proofs.Stores.{few, many}
+use Rattle.table.proofs.Halving.{address-searched}
 use Rattle.table.proofs.Spans.{addresses-up, rank-next, links-found, class-at-start, no-class}
 use Rattle.panel.specs.declared.Panel.{Panel}
 use Rattle.panel.specs.Panel.{Model, modelOf}
 use Rattle.panel.specs.Calls.{outside}
-use Rattle.telegrams.specs.Telegrams.{isOutside, linkChecks, delivered, afterTelegram}
-use Rattle.telegrams.proofs.Halving.{start-most}
+use Rattle.telegrams.specs.Telegrams.{isOutside, linkChecks, Together, delivered, afterTelegram}
 
 module _ (t : Table) (address : ℕ) (sound : isSound (heldOf t) ≡ true) (room : length (t .links) ≡ 512) where
   -- they end where the next address starts
-  pub ends-at : startOf (address + 1) (heldOf t .links) ≡ startOf address (heldOf t .links) + length (linksTo address (heldOf t .links))
+  ends-at : startOf (address + 1) (heldOf t .links) ≡ startOf address (heldOf t .links) + length (linksTo address (heldOf t .links))
   unfolding startOf linksTo
   ends-at = rank-next (λ l. l .address) address (heldOf t .links)
 
   pub ends-low : startOf address (heldOf t .links) + length (linksTo address (heldOf t .links)) ≤ t .count
-  ends-low = omega (arith, ends-at, start-most t (address + 1) sound room)
+  unfolding startOf
+  ends-low = omega (arith, ends-at, many t room (few t sound), rank-bounded (λ l. l .address) (address + 1) (heldOf t .links))
+
+  -- the searches for the first keys of this address and of the next end where they start and where they end
+  module _ {start end : ℕ} (from : start ≡ searched (address * 65536) (heldOf t .links)) (to : end ≡ searched ((address + 1) * 65536) (heldOf t .links)) where
+    starts : start ≡ startOf address (heldOf t .links)
+    starts = from ∙ address-searched t sound address
+
+    ends : end ≡ startOf address (heldOf t .links) + length (linksTo address (heldOf t .links))
+    ends = to ∙ address-searched t sound (address + 1) ∙ ends-at
+
+    pub starts-low : start ≤ end
+    starts-low = omega (arith, starts, ends)
+
+    pub together : Together address (heldOf t .links) start (end - start)
+    together = record { from = starts; counted = omega (arith, starts, ends) }
 
   module _ {start count : ℕ} (from : start ≡ startOf address (heldOf t .links)) (counted : count ≡ length (linksTo address (heldOf t .links))) where
     -- they are the links of the span

@@ -1,8 +1,6 @@
 // Document 01, "Links and telegrams": a telegram goes to every link of its address in table order, and answers how
 // many there were. It is judged as a whole before the first blind hears of it.
-mod spans;
 
-use crate::spans::Span;
 use answers::DONE;
 use answers::NO_LINK;
 use answers::NOT_OF_THE_CLASS;
@@ -11,6 +9,7 @@ use answers::OUT_OF_RANGE;
 use answers::WRONG_CELLS;
 use blind::Blind;
 use kinds::class_of_kind;
+use link::ADDRESS_STEP;
 use link::Link;
 use link::is_address;
 use outputs::cell;
@@ -99,8 +98,8 @@ impl Reach {
     }
 }
 
-// The links of the address are looked up once, for their number, their class and their place. All links of an address
-// have one class, so the first tells it.
+// The links of the address are looked up once, for their number, their class and their place: they stand together, and
+// end where those of the next address start. All of them have one class, so the first tells it.
 fn judge(table: Table, address: u64, value: u64) -> Reach
     requires { ⌜ ofLinks.isSound (heldOf table) ≡ true ⌝ }
     ensures { λ r. ⌜ (r .answer ≡ refusal (outside (isOutside address value) ∷ linkChecks address value (heldOf table .links))) × (r .answer ≡ 0 → Together address (heldOf table .links) (r .start) (r .count)) ⌝ }
@@ -112,9 +111,9 @@ fn judge(table: Table, address: u64, value: u64) -> Reach
             count: 0,
         };
     }
-    let span = Span::of(table, address);
-    let start = span.start;
-    let count = span.count;
+    let start = table.below(address * ADDRESS_STEP);
+    let end = table.below((address + 1) * ADDRESS_STEP);
+    let count = end - start;
     if count == 0 {
         return Reach {
             answer: NO_LINK,

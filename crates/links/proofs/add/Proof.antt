@@ -15,6 +15,7 @@ use Rattle.links.specs.Edits.{addChecks, tableAdd}
 use Rattle.links.proofs.Calls.{not-sound, own-checks, accepted}
 use Rattle.links.proofs.Leaves.{place-low, added-at}
 use Rattle.laws.proofs.Fills.{long}
+use Rattle.table.proofs.Halving.{sound-searched}
 use Rattle.table.proofs.Stores.{few, many}
 use Rattle.links.proofs.add.Statement.{statement}
 use Rattle.links.proofs.add.Tie as tie
@@ -28,7 +29,10 @@ full c = many (c .before .before .args .table) (search (long, needs)) (few _ (so
 
 -- the search was for the link
 searched : (c : tie.After-below) → c .below .result ≡ rank keyOf (keyOf (c .before .before .before .before .args .link)) (heldOf (c .before .before .before .before .args .table) .links)
-searched c = c .below .ensures ∙ ap (λ (k : ℕ). rank keyOf k (heldOf (c .before .before .before .before .args .table) .links)) (c .before .key .ensures)
+searched c =
+    let one = c .before .before in
+    c .below .ensures ∙ sound-searched (one .before .before .args .table) (sound one) _
+    ∙ ap (λ (k : ℕ). rank keyOf k (heldOf (one .before .before .args .table) .links)) (c .before .key .ensures)
 
 -- the judge has no objection
 judged : (c : tie.Else2) → 0 ≡ refusal (addChecks (c .before .before .before .before .before .before .args .link) (heldOf (c .before .before .before .before .before .before .args .table)))
@@ -66,7 +70,7 @@ add-spec =
     (λ c κs. search needs)
     returns
     (λ c κs. search needs)
-    (λ c κs. sound (c .before))
+    (λ c κs. search needs)
     (λ c κs. (sound (c .before .before), searched c))
     returns-2
     with-at-requires
