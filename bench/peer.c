@@ -9,18 +9,19 @@ int printf(const char *format, ...);
 unsigned long long strtoull(const char *text, char **end, int base);
 
 enum {
-    CALLS = 13,
+    CALLS = 15,
     CASES = 5,
     FIRST_EDIT = 6,
     STRIP = 5,
-    WIRING = 7,
+    FRONT_WIRING = 7,
+    END_WIRING = 13,
     TOO_LONG = 60001,
     RUNNING_FOR = 540000
 };
 
 enum { AS_IT_IS, OUTSIDE, WRONG_CELLS, BAD_BLINDS, BAD_LINKS };
 
-enum { FRONT = 1, SHARED = 1000, BEFORE = 100, AFTER = 2000, REST = 500 };
+enum { FRONT = 1, SHARED = 1000, BEFORE = 100, AFTER = 2000, END = 65535, REST = 500 };
 
 static const struct parameters asked = {
     .mudt = 600000, .sst = 200, .rpt = 500, .rwa = 1, .rra = 1, .rfa = 0
@@ -201,6 +202,17 @@ static void exchanges(struct tally *tally, struct panel *panel, uint64_t tag,
     }
 }
 
+static void lookups(struct tally *tally, const struct panel *panel, struct workload w)
+{
+    uint64_t place = 0;
+    for (uint64_t turn = 0; turn < w.turns; turn++) {
+        place = w.links == 0 ? 0 : (place + w.links / 2 + 1) % w.links;
+        struct link first = { (uint16_t)address_of(place, w.blinds, w.links), 0, 0 };
+        struct answer found = { DONE, place_of(panel, first) };
+        count(tally, found);
+    }
+}
+
 /* ---- A workload ------------------------------------------------------ */
 
 static void run_bus(struct tally *tally, struct panel *panel, struct workload w)
@@ -222,19 +234,22 @@ static void run_edits(struct tally *tally, struct panel *panel, struct workload 
     int outside = w.kase == OUTSIDE;
     switch (w.call) {
     case 6: inventories(tally, panel, w.turns); break;
-    case 7: wirings(tally, panel, outside ? 0 : FRONT, w.turns); break;
+    case FRONT_WIRING: wirings(tally, panel, outside ? 0 : FRONT, w.turns); break;
     case 8: splicings(tally, panel, outside ? TERMINALS : 0, w.turns); break;
     case 9: installs(tally, panel, outside ? TAGS : 0, w.turns); break;
     case 10: removals(tally, panel, outside ? TAGS : 0, w.turns); break;
     case 11: writes(tally, panel, outside ? TAGS : 0, w.turns); break;
-    default: exchanges(tally, panel, outside ? TAGS : 0, w.turns);
+    case 12: exchanges(tally, panel, outside ? TAGS : 0, w.turns); break;
+    case END_WIRING: wirings(tally, panel, outside ? 0 : END, w.turns); break;
+    default: lookups(tally, panel, w);
     }
 }
 
 static void run(struct workload w)
 {
     struct tally tally = { 0, 0 };
-    fit(&first, w.blinds, w.links - (w.call == WIRING), w.call < FIRST_EDIT);
+    int adds = w.call == FRONT_WIRING || w.call == END_WIRING;
+    fit(&first, w.blinds, w.links - adds, w.call < FIRST_EDIT);
     if (w.kase == BAD_BLINDS)
         first.blinds[TAGS - 1].terminal = first.blinds[0].terminal;
     if (w.kase == BAD_LINKS)

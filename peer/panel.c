@@ -331,9 +331,7 @@ static int comes_before(struct link a, struct link b)
     return a.kind < b.kind;
 }
 
-/* How many links come before this one: its place, if it is in the table,
-   and else the place where it belongs. */
-static uint64_t place_of(const struct panel *panel, struct link link)
+uint64_t place_of(const struct panel *panel, struct link link)
 {
     uint64_t place = 0;
     while (place < panel->link_count && comes_before(panel->links[place], link))

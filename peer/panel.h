@@ -113,6 +113,10 @@ struct panel empty_panel(void);
 /* The paragraph "Sound". Total: any contents may be handed over. */
 int is_sound(const struct panel *panel);
 
+/* How many links come before this one: its place, if it is in the table,
+   and else the place where it belongs. */
+uint64_t place_of(const struct panel *panel, struct link link);
+
 /* The edits. */
 struct answer install(struct panel *panel, uint64_t tag, uint64_t terminal,
                       struct parameters parameters);

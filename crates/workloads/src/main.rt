@@ -4,6 +4,7 @@
 mod bus_turns;
 mod edit_turns;
 mod lines;
+mod lookups;
 mod panels;
 mod tally;
 mod workload;
@@ -12,7 +13,7 @@ use lines::write_line;
 use workload::Workload;
 
 // How many calls there are, and how many cases.
-const CALLS: u64 = 13;
+const CALLS: u64 = 15;
 
 const CASES: u64 = 5;
 

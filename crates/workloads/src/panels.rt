@@ -15,6 +15,9 @@ pub(crate) const FULL_RUN: u64 = 4;
 // The address below all others, at which links come and go.
 pub(crate) const FRONT: u64 = 1;
 
+// The address above all others, at which they come and go too.
+pub(crate) const END: u64 = 65535;
+
 // The address of the links that one telegram reaches together.
 pub(crate) const SHARED: u64 = 1000;
 
@@ -119,7 +122,7 @@ fn lone_before(blinds: u64, links: u64) -> u64 {
     (links - together) / 2
 }
 
-fn address_of(place: u64, blinds: u64, links: u64) -> u64 {
+pub(crate) fn address_of(place: u64, blinds: u64, links: u64) -> u64 {
     let together = shared(blinds, links);
     if place < together {
         return SHARED;

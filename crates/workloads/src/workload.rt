@@ -1,6 +1,7 @@
-// One workload: a call, the case in which it is made, the panel's size and how many turns. A call is one of 13 numbers:
+// One workload: a call, the case in which it is made, the panel's size and how many turns. A call is one of 15 numbers:
 // time steps of 1, 1,000 and 60,000 ms; telegrams to one link and to the shared ones; strip reading; inventory; links
-// added and removed; splices in and out; install; remove blind; write parameters; a blind removed and installed.
+// added and removed at the front; splices in and out; install; remove blind; write parameters; a blind removed and
+// installed; links added and removed at the end; the search in the link table, which is never refused.
 use crate::bus_turns::strips;
 use crate::bus_turns::telegrams;
 use crate::bus_turns::time_steps;
@@ -11,6 +12,8 @@ use crate::edit_turns::removals;
 use crate::edit_turns::splicings;
 use crate::edit_turns::wirings;
 use crate::edit_turns::writes;
+use crate::lookups::lookups;
+use crate::panels::END;
 use crate::panels::FRONT;
 use crate::panels::SHARED;
 use crate::panels::alone;
@@ -28,8 +31,10 @@ const FIRST_TELEGRAM: u64 = 3;
 // The call that reads the strip.
 const STRIP: u64 = 5;
 
-// The call that adds a link, so that its table starts with one less.
-const WIRING: u64 = 7;
+// The calls that add a link, so that their table starts with one less.
+const FRONT_WIRING: u64 = 7;
+
+const END_WIRING: u64 = 13;
 
 // The cases: done; refused with 1; with 11; with 12, for the blinds and for the links.
 const OUTSIDE: u64 = 1;
@@ -62,17 +67,20 @@ impl Workload {
     }
 
     fn panel(self) -> Panel {
-        let links = if self.call == WIRING {
-            wrapping_sub_u64(self.links, 1)
-        } else {
-            self.links
-        };
-        let panel = fitted(self.blinds, links, self.call < FIRST_EDIT);
+        let panel = fitted(self.blinds, self.first_links(), self.call < FIRST_EDIT);
         let case = self.case;
         match case {
             BAD_BLINDS => bad_blinds(panel),
             BAD_LINKS => bad_links(panel),
             _ => panel,
+        }
+    }
+
+    fn first_links(self) -> u64 {
+        let call = self.call;
+        match call {
+            FRONT_WIRING | END_WIRING => wrapping_sub_u64(self.links, 1),
+            _ => self.links,
         }
     }
 
@@ -131,12 +139,14 @@ impl Workload {
         let call = self.call;
         match call {
             6 => inventories(panel, turns),
-            7 => wirings(panel, self.or_outside(FRONT, 0), turns),
+            FRONT_WIRING => wirings(panel, self.or_outside(FRONT, 0), turns),
             8 => splicings(panel, self.or_outside(0, 128), turns),
             9 => installs(panel, self.or_outside(0, 64), turns),
             10 => removals(panel, self.or_outside(0, 64), turns),
             11 => writes(panel, self.or_outside(0, 64), turns),
-            _ => exchanges(panel, self.or_outside(0, 64), turns),
+            12 => exchanges(panel, self.or_outside(0, 64), turns),
+            END_WIRING => wirings(panel, self.or_outside(END, 0), turns),
+            _ => lookups(panel, self.blinds, self.links, turns),
         }
     }
 
