@@ -144,6 +144,10 @@ module _ (t : Table) (sound : isSound (heldOf t) ≡ true) where
       let both : (t .count ≤ most) × Fine (heldOf t .links) = sound-reads (heldOf t) sound in
       searched-rank key (heldOf t .links) (omega (arith, length-take (t .count) (t .links))) (both .1 .ascends)
 
+  -- the search for a link ends after all links below it
+  pub link-searched : (l : Link) {place key : ℕ} → place ≡ searched key (heldOf t .links) → key ≡ keyOf l → place ≡ rank keyOf (keyOf l) (heldOf t .links)
+  link-searched l {place} {key} found e = found ∙ sound-searched key ∙ ap (λ (k : ℕ). rank keyOf k (heldOf t .links)) e
+
   -- the search for the first key of an address ends where the links of the address start
   pub address-searched : (address : ℕ) → searched (address * 65536) (heldOf t .links) ≡ startOf address (heldOf t .links)
   address-searched address = sound-searched (address * 65536) ∙ start-key address (heldOf t .links) (sound-reads (heldOf t) sound .1 .ranged)

@@ -1,7 +1,7 @@
 -- The test refuses an unsound table, the judge the rest; else the link goes to the place where the search for it ended.
 use native.Mathlib.Omega.{arith}
-use Prim.Native.Nat.{ℕ, _≤_}
-use mathlib.Core.Path.{_≡_, refl, sym, ap, _∙_}
+use Prim.Native.Nat.{_≤_}
+use mathlib.Core.Path.{_≡_, refl, sym, _∙_}
 use mathlib.Core.Bool.{true}
 use lib.ListN.{length}
 use borrow.Author.Needs.{needs}
@@ -15,7 +15,7 @@ use Rattle.links.specs.Edits.{addChecks, tableAdd}
 use Rattle.links.proofs.Calls.{not-sound, own-checks, accepted}
 use Rattle.links.proofs.Leaves.{place-low, added-at}
 use Rattle.laws.proofs.Fills.{long}
-use Rattle.table.proofs.Halving.{sound-searched}
+use Rattle.table.proofs.Halving.{link-searched}
 use Rattle.table.proofs.Stores.{few, many}
 use Rattle.links.proofs.add.Statement.{statement}
 use Rattle.links.proofs.add.Tie as tie
@@ -29,10 +29,7 @@ full c = many (c .before .before .args .table) (search (long, needs)) (few _ (so
 
 -- the search was for the link
 searched : (c : tie.After-below) → c .below .result ≡ rank keyOf (keyOf (c .before .before .before .before .args .link)) (heldOf (c .before .before .before .before .args .table) .links)
-searched c =
-    let one = c .before .before in
-    c .below .ensures ∙ sound-searched (one .before .before .args .table) (sound one) _
-    ∙ ap (λ (k : ℕ). rank keyOf k (heldOf (one .before .before .args .table) .links)) (c .before .key .ensures)
+searched c = link-searched _ (sound (c .before .before)) _ (c .below .ensures) (c .before .key .ensures)
 
 -- the judge has no objection
 judged : (c : tie.Else2) → 0 ≡ refusal (addChecks (c .before .before .before .before .before .before .args .link) (heldOf (c .before .before .before .before .before .before .args .table)))

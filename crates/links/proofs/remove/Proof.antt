@@ -1,6 +1,6 @@
 -- The test refuses an unsound table, and a link that is not where the search for it ended is not there; else the links after it move down.
 use native.Mathlib.Omega.{arith}
-use Prim.Native.Nat.{ℕ, _<_}
+use Prim.Native.Nat.{_<_}
 use mathlib.Core.Path.{_≡_, refl, sym, ap, _∙_}
 use mathlib.Core.Bool.{true, not}
 use lib.ListN.{length}
@@ -15,7 +15,7 @@ use Rattle.links.specs.Edits.{isIn, tableRemove}
 use Rattle.links.proofs.Calls.{not-sound, own-checks}
 use Rattle.links.proofs.Leaves.{place-below, removed-at}
 use Rattle.laws.proofs.Fills.{long}
-use Rattle.table.proofs.Halving.{sound-searched}
+use Rattle.table.proofs.Halving.{link-searched}
 use Rattle.table.proofs.Stores.{few, many}
 use Rattle.links.proofs.remove.Statement.{statement}
 use Rattle.links.proofs.remove.Tie as tie
@@ -29,10 +29,7 @@ full c = many (c .before .before .args .table) (search (long, needs)) (few _ (so
 
 -- the search was for the link
 searched : (c : tie.After-below) → c .below .result ≡ rank keyOf (keyOf (c .before .before .before .before .args .link)) (heldOf (c .before .before .before .before .args .table) .links)
-searched c =
-    let one = c .before .before in
-    c .below .ensures ∙ sound-searched (one .before .before .args .table) (sound one) _
-    ∙ ap (λ (k : ℕ). rank keyOf k (heldOf (one .before .before .args .table) .links)) (c .before .key .ensures)
+searched c = link-searched _ (sound (c .before .before)) _ (c .below .ensures) (c .before .key .ensures)
 
 there : (c : tie.Else2) → isIn keyOf (c .before .before .before .before .before .before .args .link) (heldOf (c .before .before .before .before .before .before .args .table) .links) ≡ true
 there c = sym (c .before .holds .ensures) ∙ not-false _ (c .if2 .left)
