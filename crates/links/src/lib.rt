@@ -2,7 +2,7 @@
 // than before; a refused edit hands the table back as it was. Whatever a table holds, every call answers: one that is not
 // sound is refused by 12.
 
-pub mod search;
+mod search;
 
 ghost use Prim.Native.Nat.{_≤_, _<_, suc};
 ghost use mathlib.Core.Path.{_≡_};

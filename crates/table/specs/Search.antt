@@ -10,6 +10,7 @@ use lib.Dec.{ltb}
 use Rattle.link.specs.declared.Link.{Link}
 use Rattle.link.specs.Link.{keyOf, nothing}
 
+-- The place in the middle of two.
 abbrev pub middle : ℕ → ℕ → ℕ
 middle low high = (low + high) / 2
 

@@ -1,7 +1,7 @@
 // Document 01, "Links and telegrams" and "Sound": the table of up to 512 links, ascending by address, tag and kind, and
 // the test of that. A table that is not sound is refused by every call, so whoever searches one may count on the order.
 
-pub mod search;
+mod search;
 
 ghost use mathlib.Core.Path.{_≡_};
 ghost use mathlib.Core.List.{[]};

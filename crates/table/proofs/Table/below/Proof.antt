@@ -2,7 +2,6 @@
 use Prim.Native.Nat.{_-_, _≤_}
 use native.Mathlib.Omega.{arith}
 use mathlib.Core.Path.{_≡_}
-use mathlib.Core.Logic.{⊎-elim}
 use lib.ListN.{length, length-take}
 use borrow.Author.Needs.{needs}
 use Rattle.laws.proofs.Fills.{long}
@@ -12,10 +11,10 @@ use Rattle.table.proofs.Table.below.Statement.{statement}
 use Rattle.table.proofs.Table.below.Tie as tie
 
 abbrev Inv-loop : tie.InvT-loop
-Inv-loop key self count low₀ high₀ low high = Leads key (heldOf self .links) low high
+Inv-loop key self low₀ high₀ low high = Leads key (heldOf self .links) low high
 
 abbrev μ-loop : tie.MeasureT-loop
-μ-loop key self count low₀ high₀ low high = high - low
+μ-loop key self low₀ high₀ low high = high - low
 
 -- the table has its 512 places, and holds no more links
 room : (c : tie.Start Inv-loop μ-loop) → length (c .args .t1 .links) ≡ 512
@@ -24,26 +23,26 @@ room c = search (long, needs)
 few : (c : tie.Start Inv-loop μ-loop) → length (heldOf (c .args .t1) .links) ≤ 512
 few c = omega (arith, room c, length-take (c .args .t1 .count) (c .args .t1 .links))
 
+-- places that are left to look at are in the table
+inside : (c : tie.At-loop Inv-loop μ-loop) → c .loop .high ≤ 512
+inside c = omega (arith, c .loop .inv .within, few (c .before .before))
+
 loop-holds : tie.Need-loop-holds Inv-loop μ-loop
 loop-holds c =
     let t = c .before .args .t1 in
-    leads-first (c .before .args .key) (heldOf t .links) (few (c .before))
-    (⊎-elim
-    (λ w. omega (arith, room (c .before), length-take (t .count) (t .links)))
-    (λ w. omega (arith, room (c .before), length-take (t .count) (t .links)))
-    (c .if1 .came))
+    leads-first (c .before .args .key) (heldOf t .links) (few (c .before)) (omega (arith, room (c .before), length-take (t .count) (t .links), c .held .ensures))
 
 loop-again : tie.Need-loop-again Inv-loop μ-loop
 loop-again c =
-    let at = c .before .before .before .before .before in
+    let at = c .before .before .before .before in
     let start = at .before .before in
-    leads-after (start .args .t1) (start .args .key) (at .loop .inv) (c .before .before .before .before .loop-test .taken) (c .before .key .ensures) (c .if2 .taken)
+    leads-after (start .args .t1) (start .args .key) (at .loop .inv) (c .before .before .before .loop-test .taken) (c .before .key .ensures) (c .if1 .taken)
 
 loop-again-2 : tie.Need-loop-again-2 Inv-loop μ-loop
 loop-again-2 c =
-    let at = c .before .before .before .before .before in
+    let at = c .before .before .before .before in
     let start = at .before .before in
-    leads-before (start .args .t1) (start .args .key) (at .loop .inv) (c .before .before .before .before .loop-test .taken) (c .before .key .ensures) (c .if2 .left)
+    leads-before (start .args .t1) (start .args .key) (at .loop .inv) (c .before .before .before .loop-test .taken) (c .before .key .ensures) (c .if1 .left)
 
 returns : tie.Need-returns Inv-loop μ-loop
 returns c =
@@ -56,12 +55,13 @@ below-spec =
     (tie.spec
     Inv-loop
     μ-loop
-    loop-holds
-    (λ c. omega (arith, c .before .before .loop .inv .within, few (c .before .before .before .before)))
-    (λ c. omega (arith, c .before .before .loop .inv .within, few (c .before .before .before .before)))
-    (λ c. omega (arith, c .before .before .loop .inv .within, few (c .before .before .before .before)))
     (λ c κs. search needs)
-    (λ c. omega (arith, c .before .before .before .before .before .loop .inv .within, few (c .before .before .before .before .before .before .before)))
+    loop-holds
+    (λ c. omega (arith, inside (c .before)))
+    (λ c. omega (arith, inside (c .before)))
+    (λ c. omega (arith, inside (c .before)))
+    (λ c κs. search needs)
+    (λ c. omega (arith, inside (c .before .before .before .before)))
     (λ c. omega arith)
     loop-again
     (λ c. omega arith)
