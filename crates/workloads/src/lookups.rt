@@ -17,7 +17,7 @@ pub(crate) fn lookups(panel: Panel, blinds: u64, links: u64, n: u64) -> Tally {
     tally.with_panel(panel)
 }
 
-// Half of the links and one more on: every link has its turn, and none follows its neighbour.
+// Half of the links and one more on: no link follows its neighbour, and of a power of two each has its turn.
 fn further(place: u64, links: u64) -> u64 {
     if links == 0 {
         return 0;
