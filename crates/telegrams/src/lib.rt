@@ -1,6 +1,5 @@
 // Document 01, "Links and telegrams": a telegram goes to every link of its address in table order, and answers how
 // many there were. It is judged as a whole before the first blind hears of it.
-
 use answers::DONE;
 use answers::NO_LINK;
 use answers::NOT_OF_THE_CLASS;

@@ -34,10 +34,10 @@ decided : (c : tie.Else1) {n : ℕ} → refusal (linkChecks (c .before .before .
     → n ≡ refusal (outside (isOutside (c .before .before .args .address) (c .before .before .args .value)) ∷ linkChecks (c .before .before .args .address) (c .before .before .args .value) (heldOf (c .before .before .args .t1) .links))
 decided c = links-decide (c .before .before .args .address) (c .before .before .args .value) (heldOf (c .before .before .args .t1) .links) (within c)
 
--- the links of the address stand between where the two searches end
 low : (c : tie.Else1) → c .before .before .args .address ≤ 65535
 low c = inside _ _ (within c) .address-high
 
+-- the links of the address stand between where the two searches end
 up : (c : tie.After-below2) → c .before .below .result ≤ c .below2 .result
 up c =
     let start = c .before .before .before .before in
