@@ -6,11 +6,11 @@ use native.Mathlib.Omega.{arith}
 use native.Mathlib.Decide.{decLt}
 use mathlib.Core.Path.{_≡_, refl, sym, ap, _∙_}
 use mathlib.Core.Bool.{Bool, true, false}
-use mathlib.Core.List.{List}
+use mathlib.Core.List.{List, [], _∷_}
 use lib.ListN.{length, getD, length-take}
 use borrow.Author.Tests.{lt-ltb, le-ltb, ltb-true, ltb-false}
 use Rattle.link.specs.declared.Link.{Link}
-use Rattle.link.specs.Link.{keyOf, nothing}
+use Rattle.link.specs.Link.{keyOf, linkOf, nothing}
 use Rattle.table.specs.declared.Table.{Table}
 use Rattle.table.specs.Links.{rank, startOf, heldOf}
 use Rattle.table.specs.Sound.{most, isSound}
@@ -22,24 +22,24 @@ use Rattle.table.proofs.Stores.{held-at}
 
 module _ (below : ℕ → Bool) where
   -- nothing is left to look at
-  pub halved-over : (n low high : ℕ) → high ≤ low → halved below n low high ≡ low
+  halved-over : (n low high : ℕ) → high ≤ low → halved below n low high ≡ low
   unfolding halved
   halved-over zero low high h = refl
   halved-over (suc n) low high h = rw (le-ltb low high h)
 
   module _ (n low high : ℕ) (some : low < high) where
     -- the middle is below: on after it
-    pub halved-after : below (middle low high) ≡ true → halved below (suc n) low high ≡ halved below n (middle low high + 1) high
+    halved-after : below (middle low high) ≡ true → halved below (suc n) low high ≡ halved below n (middle low high + 1) high
     unfolding halved
     halved-after e = rw (lt-ltb low high some, e)
 
     -- it is not: on before it
-    pub halved-before : below (middle low high) ≡ false → halved below (suc n) low high ≡ halved below n low (middle low high)
+    halved-before : below (middle low high) ≡ false → halved below (suc n) low high ≡ halved below n low (middle low high)
     unfolding halved
     halved-before e = rw (lt-ltb low high some, e)
 
   -- two numbers of looks that are enough give the same
-  pub halved-enough : (n m low high : ℕ) → high < low + 2 ^ n → high < low + 2 ^ m → halved below n low high ≡ halved below m low high
+  halved-enough : (n m low high : ℕ) → high < low + 2 ^ n → high < low + 2 ^ m → halved below n low high ≡ halved below m low high
   halved-enough zero m low high f g = halved-over zero low high (omega arith) ∙ sym (halved-over m low high (omega arith))
   halved-enough (suc n) zero low high f g = halved-over (suc n) low high (omega arith) ∙ sym (halved-over zero low high (omega arith))
   halved-enough (suc n) (suc m) low high f g = go (decLt low high) (below (middle low high)) refl (halved-enough n m)
@@ -59,7 +59,7 @@ module _ (below : ℕ → Bool) where
 
   -- the places below are those before r: there it ends
   module _ (size r : ℕ) (reaches : (i : ℕ) → i < size → below i ≡ true → i < r) (ends : (i : ℕ) → i < size → below i ≡ false → r ≤ i) where
-    pub halved-ends : (n low high : ℕ) → high ≤ size → high < low + 2 ^ n → low ≤ r → r ≤ high → halved below n low high ≡ r
+    halved-ends : (n low high : ℕ) → high ≤ size → high < low + 2 ^ n → low ≤ r → r ≤ high → halved below n low high ≡ r
     halved-ends zero low high s f l h = halved-over zero low high (omega arith) ∙ le-antisymm l (omega arith)
     halved-ends (suc n) low high s f l h = go (decLt low high) (below (middle low high)) refl (halved-ends n)
       where
@@ -90,6 +90,15 @@ module _ (key : ℕ) (ls : List Link) (few : length ls ≤ most) where
       (λ i h e. rank-reaches keyOf key ls nothing i asc h (ltb-true _ _ e))
       (λ i h e. rank-ends keyOf key ls nothing i asc h (ltb-false _ _ e))
       mostLooks 0 (length ls) (omega arith) (omega arith) (omega arith) (rank-bounded keyOf key ls)
+
+-- where links do not ascend, the search is told from a walk: of these three the first is not below address 2, so a walk ends before
+-- it, and the search ends after the second
+abbrev fallen : List Link
+fallen = linkOf 5 0 0 ∷ linkOf 1 0 0 ∷ linkOf 9 0 0 ∷ []
+
+pub no-walk : (isBelow (2 * 65536) fallen 0 ≡ false) × (searched (2 * 65536) fallen ≡ 2)
+unfolding searched halved keyOf
+no-walk = (refl, refl)
 
 -- ---- a search on its way: the looks that are left are enough, and lead to where the whole search ends
 
