@@ -1,3 +1,4 @@
 pub mod Answers
 pub mod Cases
 pub mod Rules
+pub mod Runs

@@ -22,3 +22,4 @@ pub mod Changes
 pub mod Heard
 pub mod Obeys
 pub mod Weaker
+pub mod Plain

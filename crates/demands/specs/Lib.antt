@@ -10,3 +10,4 @@ pub mod Afresh
 pub mod Chain
 pub mod Calm
 pub mod Ruling
+pub mod Plain

@@ -23,22 +23,21 @@ pub const SAPBP: u8 = 7;
 // The last kind that there is.
 pub const LAST: u8 = SAPBP;
 
-pub const NO_CLASS: u8 = 0;
+pub const ONE_BIT: u32 = 1;
 
-pub const ONE_BIT: u8 = 1;
+pub const TWO_BITS: u32 = 3;
 
-pub const TWO_BITS: u8 = 3;
+pub const ONE_BYTE: u32 = 255;
 
-pub const ONE_BYTE: u8 = 255;
-
-// FO is of two bits and SAPBP of one byte; every other kind is of one bit.
-pub fn class_of_kind(kind: u8) -> u8
+// FO is of two bits and SAPBP of one byte; every other kind is of one bit. In 32 bits, as wide as a link's word, so
+// that a loop over words has one width.
+pub fn class_of_kind(kind: u32) -> u32
     ensures { λ r. ⌜ r ≡ classOf kind ⌝ }
 {
-    if kind == FO {
+    if kind == FO as u32 {
         return TWO_BITS;
     }
-    if kind == SAPBP {
+    if kind == SAPBP as u32 {
         return ONE_BYTE;
     }
     ONE_BIT

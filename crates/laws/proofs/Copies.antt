@@ -6,7 +6,7 @@ use native.Mathlib.Omega.{arith}
 use mathlib.Core.Path.{_≡_, sym, ap, ap₂, _∙_}
 use mathlib.Core.List.{List, [], _∷_, _++_}
 use lib.ListN.{length, getD, take, drop, set, length-append, length-drop}
-use lib.Seq.{length-take-le, getD-drop, take-take, take-nil, take-at, take-paste, paste, paste-zero, paste-suc, set-append-left, take-set-lt, take-suc-set, append-snoc}
+use lib.Seq.{length-take-le, getD-drop, take-take, take-nil, take-at, take-paste, drop-paste, paste, paste-zero, paste-suc, set-append-left, take-set-lt, take-suc-set, append-snoc}
 
 module _ {A : Type 0} where
   -- one turn of a loop that copies: k elements are copied, and the next one, read at i, is stored at j
@@ -29,6 +29,17 @@ module _ {A : Type 0} where
       ap (λ (m : List A). set m j (getD l i d)) inv
       ∙ copy-turn l to from (i - from) d (omega arith) (omega arith) hi hj
       ∙ ap (paste l to (drop from l)) one
+
+  -- what stands after the elements that a copy stores is as it was
+  pub copied-after : (l : List A) (to from k : ℕ) (d : A) {j : ℕ} → to ≤ length l → k ≤ length l - from → to + k ≤ j
+      → getD (paste l to (drop from l) k) j d ≡ getD l j d
+  copied-after l to from k d {j} h i after =
+      let e : to + k + (j - (to + k)) ≡ j = omega arith in
+      ap (λ (m : ℕ). getD (paste l to (drop from l) k) m d) (sym e)
+      ∙ sym (getD-drop (to + k) (paste l to (drop from l) k) (j - (to + k)) d)
+      ∙ ap (λ (m : List A). getD m (j - (to + k)) d) (drop-paste l to (drop from l) k h (omega (arith, length-drop from l)))
+      ∙ getD-drop (to + k) l (j - (to + k)) d
+      ∙ ap (λ (m : ℕ). getD l m d) e
 
   drop-take : (p n : ℕ) (l : List A) → drop p (take n l) ≡ take (n - p) (drop p l)
   drop-take zero n l =

@@ -4,7 +4,7 @@ use Prim.Native.Nat.{ℕ, zero, suc, _+_, _≤_, _<_}
 use native.Mathlib.Numerals.{add-one}
 use native.Mathlib.Omega.{arith}
 use mathlib.Core.Path.{_≡_, refl, sym, ap, _∙_, fun-ext}
-use mathlib.Core.Bool.{Bool, true, false, not, _&&_}
+use mathlib.Core.Bool.{Bool, true, false, not, _&&_, and-true, and-assoc}
 use mathlib.Core.List.{List, [], _∷_}
 use mathlib.Core.Option.{Option, none, some, Option·some-injective, Option·none-ne-some}
 use lib.ListN.{length, getD, drop, drop-of-length-le}
@@ -64,12 +64,18 @@ module _ {A : Type 0} (p : A → Bool) where
     pub every-more : {all : Bool} → i < length xs → p (getD xs i d) ≡ true → every p (drop i xs) ≡ all → every p (drop (i + 1) xs) ≡ all
     every-more {all} h passes e = sym (rw passes at (every-step h)) ∙ e
 
-    pub every-fails : {all : Bool} → i < length xs → p (getD xs i d) ≡ false → every p (drop i xs) ≡ all → all ≡ false
-    every-fails {all} h fails e = sym e ∙ (rw fails at (every-step h))
+    -- a walk that never stops early: what it has found out so far, and what is left, decide together
+    pub every-on : (so-far next : Bool) {all : Bool} → i < length xs → next ≡ so-far && p (getD xs i d) → so-far && every p (drop i xs) ≡ all
+        → next && every p (drop (i + 1) xs) ≡ all
+    every-on so-far next {all} h found e =
+        ap (λ (b : Bool). b && every p (drop (i + 1) xs)) found
+        ∙ and-assoc so-far (p (getD xs i d)) (every p (drop (i + 1) xs))
+        ∙ ap (λ (b : Bool). so-far && b) (sym (every-step h))
+        ∙ e
 
-    pub every-end : {all : Bool} → length xs ≤ i → every p (drop i xs) ≡ all → all ≡ true
+    pub every-over : (so-far : Bool) {all : Bool} → length xs ≤ i → so-far && every p (drop i xs) ≡ all → so-far ≡ all
     unfolding every
-    every-end {all} h e = sym e ∙ ap (every p) (drop-of-length-le xs h)
+    every-over so-far {all} h e = sym (and-true so-far) ∙ ap (λ (l : List A). so-far && every p l) (sym (drop-of-length-le xs h)) ∙ e
 
 -- ---- the elements of a table that are there
 

@@ -1,5 +1,7 @@
 pub mod Each
 pub mod Kept
+pub mod Maps
+pub mod Ors
 pub mod Copies
 pub mod Outcomes
 pub mod Choices
@@ -7,4 +9,4 @@ pub mod Deciding
 pub mod Fills
 pub mod Every
 pub mod Any
-pub mod Counts
+pub mod Unused

@@ -1,6 +1,6 @@
 -- Document 01, "Links and telegrams": what a link is, its ranges, its order, and which link may stand right after another.
 -- Assumes nothing.
-use Prim.Native.Nat.{ℕ, _+_, _*_, _<_}
+use Prim.Native.Nat.{ℕ, _+_, _*_, _/_, _%_, _<_}
 use mathlib.Core.Path.{_≡_}
 use mathlib.Core.Bool.{Bool, cond, not, _&&_, _||_}
 use lib.Dec.{eqb, ltb, leb}
@@ -40,9 +40,14 @@ pub data Before (a b : Link) : Type 0 where
   by-tag : a .address ≡ b .address → a .tag < b .tag → Before a b
   by-kind : a .address ≡ b .address → a .tag ≡ b .tag → a .kind < b .kind → Before a b
 
--- One number that orders links so.
+-- One number that orders links so. Document 02, K4: "Hold each link as one 32-bit word, so that the order of the words is the order
+-- of the links": this number is the word.
 unfoldable pub keyOf : Link → ℕ
 keyOf l = l .address * 65536 + l .tag * 256 + l .kind
+
+-- The link of a word, whatever the word: the address, then the tag and the kind with 8 bits each.
+unfoldable pub ofWord : ℕ → Link
+ofWord w = linkOf (w / 65536) (w / 256 % 256) (w % 256)
 
 -- Whether a link may stand right after another: in range, above it, and of its class if the address is the same.
 unfoldable pub mayFollow : Link → Link → Bool

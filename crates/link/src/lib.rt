@@ -1,11 +1,10 @@
 // Document 01, "Links and telegrams": a link is (address 1 to 65535, tag, input kind).
-// The key is one number that orders links by address, then tag, then kind.
+
+pub mod words;
 
 ghost use mathlib.Core.Path.{_≡_};
-ghost use mathlib.Core.Bool.{cond};
-ghost use Rattle.link.specs.Link.{isAddress, linkOf, linkMade, inRange, keyOf, mayFollow};
+ghost use Rattle.link.specs.Link.{isAddress, linkOf, linkMade, inRange};
 use kinds::LAST;
-use kinds::class_of_kind;
 
 const FIRST_ADDRESS: u64 = 1;
 
@@ -14,11 +13,6 @@ const LAST_ADDRESS: u64 = 65535;
 const LAST_TAG: u64 = 63;
 
 const LAST_KIND: u64 = LAST as u64;
-
-// How far apart the keys of neighbouring addresses are, and of neighbouring tags.
-pub const ADDRESS_STEP: u64 = 65536;
-
-const TAG_STEP: u64 = 256;
 
 pub struct Link {
     pub address: u16,
@@ -34,7 +28,7 @@ pub fn is_address(address: u64) -> bool
 }
 
 impl Link {
-    // What stands in an unused place, and before the first link: it is below every link in range.
+    // What numbers that do not fit are made into: no table holds it.
     pub const NOTHING: Link = Link {
         address: 0,
         tag: 0,
@@ -66,22 +60,5 @@ impl Link {
         ensures { λ r. ⌜ r ≡ inRange self ⌝ }
     {
         Link::fits(self.address as u64, self.tag as u64, self.kind as u64)
-    }
-
-    pub fn key(self) -> u64
-        ensures { λ r. ⌜ r ≡ keyOf self ⌝ }
-    {
-        (self.address as u64) * ADDRESS_STEP + (self.tag as u64) * TAG_STEP + (self.kind as u64)
-    }
-
-    // 1 where this link may not stand right after another one, else 0: a number to add up, with no branch to take.
-    pub fn clash(self, last: Link) -> u32
-        ensures { λ r. ⌜ r ≡ cond (mayFollow last self) 0 1 ⌝ }
-    {
-        let above = last.key() < self.key();
-        let another = self.address != last.address;
-        let alike = class_of_kind(self.kind) == class_of_kind(last.kind);
-        let fits = self.in_range() & above & (another | alike);
-        !fits as u32
     }
 }

@@ -109,7 +109,7 @@ one-more l order acc r = (
         }
 
     sound : isSound (holding acc) ≡ true
-    sound = sound-holds (holding acc) (omega (arith, r .few, length-append order acc)) fine
+    sound = sound-holds (holding acc) refl (omega (arith, r .few, length-append order acc)) fine
 
     outcome : edited (tableAdd l) (holding acc) ≡ doneBy (tableAdd l) (holding acc) tt
     outcome =

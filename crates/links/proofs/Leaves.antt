@@ -2,7 +2,7 @@
 -- Assumes nothing.
 use Prim.Native.Nat.{ℕ, suc, _-_, _≤_, _<_}
 use native.Mathlib.Omega.{arith}
-use mathlib.Core.Path.{_≡_, refl, sym, ap, _∙_}
+use mathlib.Core.Path.{_≡_, refl, sym, ap, ap₂, _∙_}
 use mathlib.Core.Bool.{Bool, true, false, not}
 use mathlib.Core.List.{List, [], _∷_, _++_}
 use lib.ListN.{length, getD, take, drop}
@@ -11,7 +11,7 @@ use Rattle.answers.proofs.Refusals.{passed-by, none-left}
 use Rattle.answers.proofs.Rules.{accept}
 use Rattle.link.specs.declared.Link.{Link}
 use Rattle.laws.specs.Kept.{kept}
-use Rattle.link.specs.Link.{keyOf, nothing}
+use Rattle.link.specs.Link.{keyOf, nothing, ofWord}
 use Rattle.table.specs.Links.{rank, Held, holding}
 use Rattle.table.specs.Sound.{most, isSound}
 use Rattle.links.specs.Edits.{isIn, inserted, others, deleted, stays, dropped, addLinks, addMoved, addChecks, tableAdd, removeOwn, removeLinks, removeMoved, tableRemove, tableDrop, edited}
@@ -22,6 +22,7 @@ use Rattle.table.proofs.Sound.{Fine, sound-reads, sound-holds}
 use Rattle.links.proofs.Calls.{own-checks, was-sound, Accepted, accepted}
 use Rattle.link.proofs.Ranges.{InRange, range-reads}
 use Rattle.link.proofs.Neighbours.{Agree}
+use Rattle.link.proofs.Packed.{link-back, range-fits}
 use Rattle.links.proofs.Classes.{agrees-all}
 use Rattle.laws.proofs.Each.{Each, more, each-perm, pairs-perm}
 use Rattle.laws.proofs.Kept.{each-kept, pairs-kept, kept-length}
@@ -36,14 +37,18 @@ module _ (h : Held) (l : Link) (sound : isSound h ≡ true) (full : length (h .l
   pub place-low : place ≤ h .count
   place-low = omega (arith, rank-bounded keyOf (keyOf l) (h .links))
 
-  pub added-at : 0 ≡ refusal (addChecks l h) → {left : Held} → left ≡ holding (take place (h .links) ++ l ∷ drop place (h .links))
+  -- the word of the link was put in
+  pub added-at : 0 ≡ refusal (addChecks l h) → {word : ℕ} → word ≡ keyOf l → {left : Held}
+      → left ≡ holding (take place (h .links) ++ ofWord word ∷ drop place (h .links))
       → record { answer = 0; count = h .count - place; second = 0; leaves = left; cells = tt } ≡ edited (tableAdd l) h
   unfolding tableAdd
-  added-at judged {left} e =
-      let new : isIn keyOf l (h .links) ≡ false = accepted h l (sym judged) .new in
-      let many : h .count - place ≡ addMoved l h = omega (arith, moved-inserted keyOf l (h .links) ascends new) in
+  added-at judged {word} w {left} e =
+      let ok : Accepted h l = accepted h l (sym judged) in
+      let many : h .count - place ≡ addMoved l h = omega (arith, moved-inserted keyOf l (h .links) ascends (ok .new)) in
+      let this : ofWord word ≡ l = ap ofWord w ∙ link-back l (range-fits l (range-reads l (ok .range))) in
       let links : left ≡ holding (addLinks l h) =
-      e ∙ ap (λ (p : ℕ). holding (take p (h .links) ++ l ∷ drop p (h .links))) searched ∙ ap holding (sym (inserted-at keyOf l (h .links) ascends)) in
+      e ∙ ap₂ (λ (p : ℕ) (x : Link). holding (take p (h .links) ++ x ∷ drop p (h .links))) searched this
+      ∙ ap holding (sym (inserted-at keyOf l (h .links) ascends)) in
       accept (tableAdd l) h tt (own-checks h (addChecks l h) sound ∙ sym judged) many refl links refl
 
   module _ (there : isIn keyOf l (h .links) ≡ true) where
@@ -94,14 +99,14 @@ module _ (h : Held) (full : length (h .links) ≡ h .count) where
       let passed : (isSound h ≡ true) × (refusal (addChecks l h) ≡ 0) = was-sound h (addChecks l h) e in
       let ok : Accepted h l = accepted h l (passed .1) in
       let fine : Fine (h .links) = sound-reads h (passed .0) .1 in
-      sound-holds (holding (addLinks l h)) (omega (arith, ok .room, inserted-length keyOf l (h .links)))
+      sound-holds (holding (addLinks l h)) refl (omega (arith, ok .room, inserted-length keyOf l (h .links)))
       (fine-inserted l (h .links) fine (range-reads l (ok .range)) (ok .new) (agrees-all l (h .links) (fine .agrees) (ok .one-class)))
 
   -- some links of a sound table are a sound table
   kept-sound : isSound h ≡ true → (p : Link → Bool) → isSound (holding (kept p (h .links))) ≡ true
   kept-sound e p =
       let both : (h .count ≤ most) × Fine (h .links) = sound-reads h e in
-      sound-holds (holding (kept p (h .links))) (omega (arith, both .0, kept-length p (h .links))) (fine-kept p (h .links) (both .1))
+      sound-holds (holding (kept p (h .links))) refl (omega (arith, both .0, kept-length p (h .links))) (fine-kept p (h .links) (both .1))
 
   pub remove-leaves : (l : Link) → refusal (tableRemove l .checks h tt) ≡ 0 → isSound (tableRemove l .leaves h) ≡ true
   unfolding tableRemove deleted

@@ -7,3 +7,4 @@ pub mod Leaves
 pub mod Afresh
 pub mod Untouched
 pub mod Outcomes
+pub mod Plain

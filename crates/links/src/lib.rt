@@ -10,7 +10,7 @@ ghost use mathlib.Core.Bool.{true, not};
 ghost use mathlib.Core.List.{[], _∷_, _++_};
 ghost use lib.ListN.{take, drop};
 ghost use Rattle.answers.specs.Answers.{refusal};
-ghost use Rattle.link.specs.Link.{keyOf};
+ghost use Rattle.link.specs.Link.{keyOf, ofWord};
 ghost use Rattle.table.specs.Links.{rank, heldOf, holding};
 ghost use Rattle.table.specs.Sound.{most, isSound};
 ghost use Rattle.links.specs.Edits.{addChecks, tableAdd, tableRemove, edited, editedOf};
@@ -24,8 +24,11 @@ use answers::NOT_SOUND;
 use answers::OUT_OF_RANGE;
 use answers::TABLE_FULL;
 use link::Link;
+use link::words::UNUSED;
 use table::MOST;
 use table::Table;
+use table::search::below;
+use table::soundness::is_sound;
 
 // What an edit answers, how many surviving links it moved, and the table that it leaves.
 pub struct Edited {
@@ -62,39 +65,42 @@ fn first_met(fits: bool, there: bool, other: bool, full: bool) -> u8
     if full { TABLE_FULL } else { DONE }
 }
 
-// The table with a link put in at a place: the links from there on move up by one.
-fn with_at(table: Table, place: usize, link: Link) -> Table
+// The table with a word put in at a place: the words from there on move up by one.
+fn with_at(table: Table, place: usize, word: u32) -> Table
     requires { ⌜ place ≤ table .count ⌝ }
     requires { ⌜ table .count < most ⌝ }
-    ensures { λ r. ⌜ heldOf r ≡ holding (take place (heldOf table .links) ++ link ∷ drop place (heldOf table .links)) ⌝ }
+    requires { ⌜ heldOf table .tidy ≡ true ⌝ }
+    ensures { λ r. ⌜ heldOf r ≡ holding (take place (heldOf table .links) ++ ofWord word ∷ drop place (heldOf table .links)) ⌝ }
 {
     let count = table.count;
     let mut next = table;
     let mut i = place;
     while i < count {
-        let moving = table.links[i];
-        next.links[i + 1] = moving;
+        let moving = table.words[i];
+        next.words[i + 1] = moving;
         i += 1;
     }
-    next.links[place] = link;
+    next.words[place] = word;
     next.count = count + 1;
     next
 }
 
-// The table without the link at a place: the links after it move down by one.
+// The table without the word at a place: the words after it move down by one, and the last one's place is unused.
 fn without_at(table: Table, place: usize) -> Table
     requires { ⌜ place < table .count ⌝ }
     requires { ⌜ table .count ≤ most ⌝ }
+    requires { ⌜ heldOf table .tidy ≡ true ⌝ }
     ensures { λ r. ⌜ heldOf r ≡ holding (take place (heldOf table .links) ++ drop (suc place) (heldOf table .links)) ⌝ }
 {
     let count = table.count;
     let mut next = table;
     let mut i = place + 1;
     while i < count {
-        let moving = table.links[i];
-        next.links[i - 1] = moving;
+        let moving = table.words[i];
+        next.words[i - 1] = moving;
         i += 1;
     }
+    next.words[count - 1] = UNUSED;
     next.count = count - 1;
     next
 }
@@ -103,14 +109,15 @@ fn without_at(table: Table, place: usize) -> Table
 pub fn add(table: Table, link: Link) -> Edited
     ensures { λ r. ⌜ editedOf r ≡ edited (tableAdd link) (heldOf table) ⌝ }
 {
-    if !table.is_sound() {
+    if !is_sound(&table.words, table.count) {
         return Edited {
             answer: NOT_SOUND,
             moved: 0,
             table,
         };
     }
-    let place = table.below(link.key());
+    let word = link.word();
+    let place = below(&table.words, table.count, word as u64);
     let answer = judge_new(table, link, place);
     if answer != DONE {
         return Edited {
@@ -120,7 +127,7 @@ pub fn add(table: Table, link: Link) -> Edited
         };
     }
     let count = table.count;
-    let grown = with_at(table, place, link);
+    let grown = with_at(table, place, word);
     Edited {
         answer: DONE,
         moved: (count - place) as u64,
@@ -132,14 +139,15 @@ pub fn add(table: Table, link: Link) -> Edited
 pub fn remove(table: Table, link: Link) -> Edited
     ensures { λ r. ⌜ editedOf r ≡ edited (tableRemove link) (heldOf table) ⌝ }
 {
-    if !table.is_sound() {
+    if !is_sound(&table.words, table.count) {
         return Edited {
             answer: NOT_SOUND,
             moved: 0,
             table,
         };
     }
-    let place = table.below(link.key());
+    let word = link.word();
+    let place = below(&table.words, table.count, word as u64);
     if !holds(table, link, place) {
         return Edited {
             answer: NO_LINK,

@@ -7,10 +7,11 @@ ghost use Rattle.link.specs.Link.{keyOf};
 ghost use Rattle.table.specs.Links.{rank, heldOf};
 ghost use Rattle.table.specs.Sound.{isSound};
 ghost use Rattle.links.specs.Edits.{isIn, otherClass};
-use kinds::class_of_kind;
-use link::ADDRESS_STEP;
 use link::Link;
+use link::words::ADDRESS_STEP;
+use link::words::class_in;
 use table::Table;
+use table::search::below;
 
 // Whether a link stands at the place where the search for it ended.
 pub(crate) fn holds(table: Table, link: Link, place: usize) -> bool
@@ -22,8 +23,8 @@ pub(crate) fn holds(table: Table, link: Link, place: usize) -> bool
     if count <= place {
         return false;
     }
-    let here = table.links[place];
-    here.key() == link.key()
+    let here = table.words[place];
+    here == link.word()
 }
 
 // Whether the address of a link has another class: that of the first link that is not below the address, if it has it.
@@ -31,14 +32,19 @@ pub(crate) fn other_class(table: Table, link: Link) -> bool
     requires { ⌜ isSound (heldOf table) ≡ true ⌝ }
     ensures { λ r. ⌜ r ≡ otherClass link (heldOf table .links) ⌝ }
 {
-    let start = table.below(link.address as u64 * ADDRESS_STEP);
+    let start = below(
+        &table.words,
+        table.count,
+        link.address as u64 * ADDRESS_STEP,
+    );
     let count = table.count;
     if count <= start {
         return false;
     }
-    let first = table.links[start];
+    let word = table.words[start];
+    let first = Link::of(word);
     if first.address != link.address {
         return false;
     }
-    class_of_kind(first.kind) != class_of_kind(link.kind)
+    class_in(word) != class_in(link.word())
 }

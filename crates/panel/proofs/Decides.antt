@@ -5,7 +5,6 @@ use mathlib.Core.Path.{_≡_}
 use mathlib.Core.Bool.{true, false, and-true, and-false, _&&_}
 use mathlib.Core.Option.{some}
 use native.Mathlib.Omega.{arith}
-use lib.Seq.{length-take-le}
 use lib.ListN.{length, getD}
 use Rattle.laws.specs.Decides.{Decides}
 use Rattle.laws.proofs.Choices.{both-left}
@@ -17,6 +16,7 @@ use Rattle.sound_blind.proofs.Decides.{sound-decides as blind-decides}
 use Rattle.link.specs.Link.{nothing}
 use Rattle.table.specs.Sound as ofLinks
 use Rattle.table.specs.Links.{Held}
+use Rattle.table.proofs.Stores.{many}
 use Rattle.table.proofs.Sound.{sound-decided}
 use Rattle.panel.specs.declared.Panel.{Panel}
 use Rattle.panel.specs.Panel.{Seat, Model, modelOf, presentIn}
@@ -107,7 +107,7 @@ pub sound-panel : (p : Panel) → p .present .word < 2 ^ 64 → isSound (modelOf
 sound-panel p fits e = sound-decides (modelOf p) (panel-tagged p fits) .holds e
 
 -- and its table has as many links as it says: at most as many as it has places
-pub panel-fine : (p : Panel) → p .present .word < 2 ^ 64 → length (p .table .links) ≡ 512 → isSound (modelOf p) ≡ true → Fine (modelOf p)
+pub panel-fine : (p : Panel) → p .present .word < 2 ^ 64 → length (p .table .words) ≡ 512 → isSound (modelOf p) ≡ true → Fine (modelOf p)
 panel-fine p fits whole e =
     let sound : Sound (modelOf p) = sound-panel p fits e in
-    record { sound = sound; full = length-take-le (p .table .count) (p .table .links) (omega (arith, whole, sound .links .at-most)) }
+    record { sound = sound; full = many (p .table) whole (sound .links .at-most) }

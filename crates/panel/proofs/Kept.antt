@@ -187,4 +187,5 @@ bare-sound =
           in-range = λ i h. absurd (omega arith);
           ascending = λ i j k h. absurd (omega arith);
           one-class = λ i j k h. absurd (omega arith);
+          tidy = refl;
         }

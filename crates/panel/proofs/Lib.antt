@@ -1,8 +1,10 @@
 pub mod Seats
 pub mod Walk
+pub mod Names
 pub mod Decides
 pub mod Checks
 pub mod Kept
 pub mod Rules
 pub mod Exact
 pub mod Cells
+pub mod Plain

@@ -3,3 +3,4 @@ pub mod Fields
 pub mod Sound
 pub mod Calls
 pub mod Reports
+pub mod Plain

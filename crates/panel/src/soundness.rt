@@ -1,20 +1,21 @@
 // Document 01, "Sound": a test that is total on any contents. The blinds first, tag by tag, with the terminals met so
-// far; then the links, of which the loop over their names only adds up.
+// far; then the links, by their words.
 use crate::Panel;
 use blind::Blind;
-use link::Link;
-use table::MOST;
-use table::Table;
+use link::words::tag_in;
+use table::search::smaller;
+use table::soundness;
 use tags::CELLS;
+use tags::PLACES;
 use tags::Tags;
 use terminals::Strip;
 use terminals::TERMINALS;
-ghost use Prim.Native.Nat.{min};
+ghost use Prim.Native.Nat.{_/_, _%_, _^_};
 ghost use mathlib.Core.Path.{_≡_};
-ghost use mathlib.Core.Bool.{not, cond, _&&_};
-ghost use Rattle.tags.specs.Tags.{tagsOf};
-ghost use Rattle.table.specs.Links.{heldOf};
-ghost use Rattle.table.specs.Sound.{most};
+ghost use mathlib.Core.Bool.{not, _&&_};
+ghost use Rattle.tags.specs.Tags.{places, tagsOf};
+ghost use Rattle.link.specs.Link.{ofWord};
+ghost use Rattle.table.specs.Links.{linksIn};
 ghost use Rattle.panel.specs.Panel.{modelOf};
 ghost use Rattle.terminals.specs.Strip.{takenOf};
 ghost use Rattle.panel.specs.Sound.{allNamed, soundSeat, soundSeats, isSound};
@@ -27,10 +28,11 @@ impl Panel {
             return false;
         }
         let table = self.table;
-        if !table.is_sound() {
+        let count = table.count;
+        if !soundness::is_sound(&table.words, count) {
             return false;
         }
-        all_named(self.present, table)
+        all_named(self.present, &table.words, count)
     }
 
     // A place whose tag is absent is passed over unread.
@@ -52,34 +54,31 @@ impl Panel {
     }
 }
 
-// Each link names a present blind.
-pub fn all_named(present: Tags, table: Table) -> bool
-    ensures { λ r. ⌜ r ≡ allNamed (tagsOf present) (heldOf table .links) ⌝ }
+// Each link names a present blind. The words are joined: no tag is past the last one exactly if theirs is not. The tags
+// without a blind are shifted by each tag: no lowest digit is 1 exactly if each tag has a blind.
+pub fn all_named(present: Tags, words: &[u32], count: usize) -> bool
+    ensures { λ r. ⌜ r ≡ allNamed (tagsOf present) (linksIn count (now (words .entry))) ⌝ }
 {
-    let end = held(table.count);
-    let mut missing = 0;
+    let free = !present.word;
+    let end = smaller(count, words.len());
+    let mut joined: u32 = 0;
+    let mut missing: u64 = 0;
     let mut i = 0;
     while i < end {
-        let link = table.links[i];
-        missing += misses(link, present);
+        let word = words[i];
+        joined = joined | word;
+        missing = missing | from_tag(free, word);
         i += 1;
     }
-    missing == 0
+    (tag_in(joined) < PLACES) & (missing % 2 == 0)
 }
 
-// A table holds no more links than it has places for, whatever its count says.
-fn held(count: usize) -> usize
-    ensures { λ r. ⌜ r ≡ min count most ⌝ }
+// The digits of a word of tags from that of a link's tag on.
+fn from_tag(tags: u64, word: u32) -> u64
+    ensures { λ r. ⌜ r ≡ tags / 2 ^ (ofWord word .tag % places) ⌝ }
 {
-    if count < MOST { count } else { MOST }
-}
-
-// 1 for a link that names no present blind.
-fn misses(link: Link, present: Tags) -> u32
-    ensures { λ r. ⌜ r ≡ cond (tagsOf present (link .tag)) 0 1 ⌝ }
-{
-    let named = present.has(link.tag as u64);
-    if named { 0 } else { 1 }
+    let tag = tag_in(word);
+    tags >> (tag % PLACES)
 }
 
 // Whether a blind may stand at a terminal beside those that are taken.

@@ -67,7 +67,7 @@ fn put_links(out: &mut [u8], at: usize, table: Table) -> usize
     let mut next = at;
     let mut i = 0;
     while i < count {
-        let link = table.links[i];
+        let link = Link::of(table.words[i]);
         next = put_link(out, next, link);
         i += 1;
     }

@@ -10,6 +10,7 @@ use panel::calls::Answered;
 use panel::soundness::all_named;
 use seats::judge_named;
 use table::Table;
+use table::soundness::is_sound;
 use tags::PLACES;
 ghost use mathlib.Core.Path.{_≡_};
 ghost use mathlib.Core.Bool.{cond};
@@ -37,7 +38,8 @@ pub fn remove_blind(mut panel: Panel, tag: u64) -> Answered
     let own = judge_named(PLACES <= tag, present, tag, blind);
     let table = panel.table;
     let edited = drop_links(own, table, tag);
-    let answer = if_sound(all_named(present, table), edited.answer);
+    let named = all_named(present, &table.words, table.count);
+    let answer = if_sound(named, edited.answer);
     if answer != DONE {
         return Answered {
             answer,
@@ -64,7 +66,7 @@ fn drop_links(own: u8, table: Table, tag: u64) -> Edited
         return remove_tag(table, tag);
     }
     Edited {
-        answer: if_sound(table.is_sound(), own),
+        answer: if_sound(is_sound(&table.words, table.count), own),
         moved: 0,
         table,
     }

@@ -1,24 +1,25 @@
 -- Halving: each look leaves one half, so n looks are enough for fewer than 2 ^ n places; where all that is below comes first, the
 -- search ends right after it. By recursion on the looks. Assumes nothing.
-use Prim.Native.Nat.{ℕ, zero, suc, _+_, _*_, _^_, _≤_, _<_}
+use Prim.Native.Nat.{ℕ, zero, suc, _+_, _*_, _^_, _≤_, _<_, min}
 use native.Mathlib.Nat.{le-antisymm, two-pow-succ}
 use native.Mathlib.Omega.{arith}
 use native.Mathlib.Decide.{decLt}
 use mathlib.Core.Path.{_≡_, refl, sym, ap, _∙_}
 use mathlib.Core.Bool.{Bool, true, false}
 use mathlib.Core.List.{List, [], _∷_}
-use lib.ListN.{length, getD, length-take}
+use lib.ListN.{length, getD}
 use borrow.Author.Tests.{lt-ltb, le-ltb, ltb-true, ltb-false}
 use Rattle.link.specs.declared.Link.{Link}
 use Rattle.link.specs.Link.{keyOf, linkOf, nothing}
+use Rattle.link.proofs.Packed.{word-back}
 use Rattle.table.specs.declared.Table.{Table}
-use Rattle.table.specs.Links.{rank, startOf, heldOf}
+use Rattle.table.specs.Links.{rank, startOf, linksIn, heldOf}
 use Rattle.table.specs.Sound.{most, isSound}
 use Rattle.table.specs.Search.{middle, halved, isBelow, mostLooks, searched}
 use Rattle.table.proofs.Ranks.{Asc, rank-bounded, rank-reaches, rank-ends}
 use Rattle.table.proofs.Sound.{Fine, sound-reads}
 use Rattle.table.proofs.Spans.{start-key}
-use Rattle.table.proofs.Stores.{held-at}
+use Rattle.table.proofs.Stores.{places, held-at}
 
 module _ (below : ℕ → Bool) where
   -- nothing is left to look at
@@ -128,9 +129,12 @@ module _ (key : ℕ) (ls : List Link) where
 
 -- one look at a link of a table
 module _ (t : Table) (key : ℕ) {low high k : ℕ} (so-far : Leads key (heldOf t .links) low high) (some : low < high)
-    (read : k ≡ keyOf (getD (t .links) (middle low high) nothing)) where
+    (read : k ≡ getD (t .words) (middle low high) 0) where
   looked : k ≡ keyOf (getD (heldOf t .links) (middle low high) nothing)
-  looked = read ∙ ap keyOf (sym (held-at t (middle low high) (omega (arith, so-far .within, length-take (t .count) (t .links)))))
+  looked =
+      read
+      ∙ sym (word-back (getD (t .words) (middle low high) 0))
+      ∙ ap keyOf (sym (held-at t (middle low high) (omega (arith, so-far .within, places t))))
 
   pub leads-after : k < key → Leads key (heldOf t .links) (middle low high + 1) high
   leads-after h =
@@ -146,17 +150,23 @@ module _ (t : Table) (key : ℕ) {low high k : ℕ} (so-far : Leads key (heldOf 
 
 -- ---- in a sound table
 
+-- the links that the search looks at: those of a table, and no more than 512
+abbrev pub inTable : Table → List Link
+inTable t = linksIn (min (t .count) most) (t .words)
+
 module _ (t : Table) (sound : isSound (heldOf t) ≡ true) where
   -- the search tells how many links stand below the key
-  pub sound-searched : (key : ℕ) → searched key (heldOf t .links) ≡ rank keyOf key (heldOf t .links)
+  pub sound-searched : (key : ℕ) → searched key (inTable t) ≡ rank keyOf key (heldOf t .links)
   sound-searched key =
       let both : (t .count ≤ most) × Fine (heldOf t .links) = sound-reads (heldOf t) sound in
-      searched-rank key (heldOf t .links) (omega (arith, length-take (t .count) (t .links))) (both .1 .ascends)
+      let all : min (t .count) most ≡ t .count = omega (arith, both .0) in
+      ap (λ (n : ℕ). searched key (linksIn n (t .words))) all
+      ∙ searched-rank key (heldOf t .links) (omega (arith, places t)) (both .1 .ascends)
 
   -- the search for a link ends after all links below it
-  pub link-searched : (l : Link) {place key : ℕ} → place ≡ searched key (heldOf t .links) → key ≡ keyOf l → place ≡ rank keyOf (keyOf l) (heldOf t .links)
+  pub link-searched : (l : Link) {place key : ℕ} → place ≡ searched key (inTable t) → key ≡ keyOf l → place ≡ rank keyOf (keyOf l) (heldOf t .links)
   link-searched l {place} {key} found e = found ∙ sound-searched key ∙ ap (λ (k : ℕ). rank keyOf k (heldOf t .links)) e
 
   -- the search for the first key of an address ends where the links of the address start
-  pub address-searched : (address : ℕ) → searched (address * 65536) (heldOf t .links) ≡ startOf address (heldOf t .links)
+  pub address-searched : (address : ℕ) → searched (address * 65536) (inTable t) ≡ startOf address (heldOf t .links)
   address-searched address = sound-searched (address * 65536) ∙ start-key address (heldOf t .links) (sound-reads (heldOf t) sound .1 .ranged)

@@ -1,6 +1,7 @@
 pub mod Ranks
 pub mod Sound
-pub mod Misfits
+pub mod Walks
 pub mod Spans
 pub mod Stores
 pub mod Halving
+pub mod Plain

@@ -4,7 +4,7 @@ use Prim.Native.Nat.{ℕ, _≤_, _<_}
 use native.Mathlib.Omega.{arith}
 use mathlib.Core.Path.{_≡_, refl, _∙_}
 use mathlib.Core.Logic.{_↔_}
-use mathlib.Core.Bool.{true, false, and-eq-true-iff}
+use mathlib.Core.Bool.{Bool, true, false, _&&_, and-eq-true-iff}
 use mathlib.Core.List.{List, [], _∷_}
 use lib.ListN.{length, getD}
 use lib.Dec.{leb}
@@ -67,15 +67,22 @@ fine-test ls f =
     (each-map (λ y r. omega (arith, r .address-low)) (f .ranged), f .ascends)
     (each-map (λ y r same. absurd (omega (arith, r .address-low))) (f .ranged), f .agrees)
 
-pub sound-reads : (h : Held) → isSound h ≡ true → (h .count ≤ most) × Fine (h .links)
+-- unused words are 0, and the rest of the test
+sound-parts : (h : Held) → isSound h ≡ true → (h .tidy ≡ true) × ((leb (h .count) most && inOrder nothing (h .links)) ≡ true)
 unfolding isSound
+sound-parts h e = and-eq-true-iff (h .tidy) (leb (h .count) most && inOrder nothing (h .links)) .0 e
+
+pub sound-tidy : (h : Held) → isSound h ≡ true → h .tidy ≡ true
+sound-tidy h e = sound-parts h e .0
+
+pub sound-reads : (h : Held) → isSound h ≡ true → (h .count ≤ most) × Fine (h .links)
 sound-reads h e =
-    let both : (leb (h .count) most ≡ true) × (inOrder nothing (h .links) ≡ true) = and-eq-true-iff (leb (h .count) most) (inOrder nothing (h .links)) .0 e in
+    let both : (leb (h .count) most ≡ true) × (inOrder nothing (h .links) ≡ true) = and-eq-true-iff (leb (h .count) most) (inOrder nothing (h .links)) .0 (sound-parts h e .1) in
     (leb-true (h .count) most (both .0), test-fine (h .links) (both .1))
 
-pub sound-holds : (h : Held) → h .count ≤ most → Fine (h .links) → isSound h ≡ true
+pub sound-holds : (h : Held) → h .tidy ≡ true → h .count ≤ most → Fine (h .links) → isSound h ≡ true
 unfolding isSound
-sound-holds h n f = rw (le-leb (h .count) most n) (fine-test (h .links) f)
+sound-holds h t n f = rw (t, le-leb (h .count) most n) (fine-test (h .links) f)
 
 -- ---- the statement
 
@@ -94,12 +101,13 @@ sound-decided h = (reads, holds)
               (each-at (h .links) nothing i (omega arith) (f .ranged)) (each-at (h .links) nothing j m (f .ranged))
               (pairs-at (λ x y. keyOf x < keyOf y) (h .links) nothing i j k m (f .ascends));
           one-class = λ i j k m. pairs-at Agree (h .links) nothing i j k m (f .agrees);
+          tidy = sound-tidy h e;
         }
 
     holds : Sound h → isSound h ≡ true
     holds s =
         let range : (i : ℕ) → i < length (h .links) → InRange (getD (h .links) i nothing) = λ i k. range-reads (getD (h .links) i nothing) (s .in-range i k) in
-        sound-holds h (s .at-most)
+        sound-holds h (s .tidy) (s .at-most)
         (record {
           ranged = each-of (h .links) nothing range;
           ascends = pairs-of (λ x y. keyOf x < keyOf y) (h .links) nothing
@@ -110,9 +118,19 @@ sound-decided h = (reads, holds)
 -- too many links
 pub too-many : (h : Held) → most < h .count → isSound h ≡ false
 unfolding isSound
-too-many h n = rw (lt-leb (h .count) most n)
+too-many h n = rw (lt-leb (h .count) most n) (go (h .tidy))
+  where
+    go : (b : Bool) → b && false ≡ false
+    go true = refl
+    go false = refl
 
--- few enough: the links decide
-pub not-too-many : (h : Held) → h .count ≤ most → isSound h ≡ inOrder nothing (h .links)
+-- few enough: the links and the unused words decide
+pub not-too-many : (h : Held) → h .count ≤ most → isSound h ≡ inOrder nothing (h .links) && h .tidy
 unfolding isSound
-not-too-many h n = rw (le-leb (h .count) most n)
+not-too-many h n = rw (le-leb (h .count) most n) (swap (h .tidy) (inOrder nothing (h .links)))
+  where
+    swap : (a b : Bool) → a && b ≡ b && a
+    swap true true = refl
+    swap true false = refl
+    swap false true = refl
+    swap false false = refl

@@ -1,3 +1,4 @@
 pub mod Links
 pub mod Sound
 pub mod Search
+pub mod Plain

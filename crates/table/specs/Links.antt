@@ -1,31 +1,45 @@
--- Document 01, "Links and telegrams": what a table holds, and the links of an address and of a tag.
+-- Document 01, "Links and telegrams", and document 02, K4: what a table holds, and the links of an address and of a tag.
 -- Assumes nothing.
 use Prim.Native.Nat.{ℕ}
-use mathlib.Core.Bool.{Bool, cond}
-use mathlib.Core.List.{List, [], _∷_}
-use lib.ListN.{length, take}
+use mathlib.Core.Bool.{Bool, true, cond}
+use mathlib.Core.List.{List, [], _∷_, map}
+use lib.ListN.{length, take, drop}
 use lib.Dec.{eqb, ltb}
+use Rattle.laws.specs.Every.{every}
 use Rattle.laws.specs.Kept.{kept}
 use Rattle.kinds.specs.Kinds.{classOf}
 use Rattle.link.specs.declared.Link.{Link}
+use Rattle.link.specs.Link.{ofWord}
 use Rattle.table.specs.declared.Table.{Table}
 
 -- How many elements of a list stand below a key.
 unfoldable pub rank : {A : Type 0} → (A → ℕ) → ℕ → List A → ℕ
 rank key k xs = length (kept (λ x. ltb (key x) k) xs)
 
--- What a table holds: how many links it says there are, and the links.
+-- What a table holds: how many links it says there are, the links, and whether "unused words are 0".
 pub record Held : Type 0 where
   pub count : ℕ
   pub links : List Link
+  pub tidy : Bool
 
--- "An unused link place carries nothing": only the links up to the count are held. Two tables are the same when they hold the same.
+-- "Hold each link as one 32-bit word": the links are those of the words up to the count.
+abbrev pub linksIn : ℕ → List ℕ → List Link
+linksIn count words = map ofWord (take count words)
+
+-- "Unused words are 0": those from the count on.
+abbrev pub tidyIn : ℕ → List ℕ → Bool
+tidyIn count words = every (λ word. eqb word 0) (drop count words)
+
+abbrev pub heldIn : ℕ → List ℕ → Held
+heldIn count words = record { count = count; links = linksIn count words; tidy = tidyIn count words }
+
+-- What a table holds. Two tables are the same when they hold the same.
 abbrev pub heldOf : Table → Held
-heldOf t = record { count = t .count; links = take (t .count) (t .links) }
+heldOf t = heldIn (t .count) (t .words)
 
--- The table of a list of links: it has the list, and the count is right.
+-- The table of a list of links: it has the list, the count is right, and unused words are 0.
 abbrev pub holding : List Link → Held
-holding ls = record { count = length ls; links = ls }
+holding ls = record { count = length ls; links = ls; tidy = true }
 
 -- "The links of its address in table order".
 unfoldable pub linksTo : ℕ → List Link → List Link

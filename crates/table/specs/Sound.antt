@@ -1,5 +1,6 @@
 -- Document 01, "Sound", what it says of links alone: "links with address and kind in range, sorted and unique, of one class for an
--- address, at most 512". `Sound` says it of any two links; `isSound` tests neighbours, and proofs/Sound shows that they agree.
+-- address, at most 512"; and document 02, K4: "Unused words are 0, and a panel that breaks this is answered 12". `Sound` says it of any
+-- two links; `isSound` tests neighbours, and proofs/Sound shows that they agree.
 -- Assumes nothing.
 use Prim.Native.Nat.{ℕ, _<_, _≤_}
 use mathlib.Core.Path.{_≡_}
@@ -23,6 +24,7 @@ pub record Sound (h : Held) : Type 0 where
   pub ascending : (i j : ℕ) → i < j → j < length (h .links) → Before (getD (h .links) i nothing) (getD (h .links) j nothing)
   pub one-class : (i j : ℕ) → i < j → j < length (h .links) → getD (h .links) i nothing .address ≡ getD (h .links) j nothing .address
       → classOf (getD (h .links) i nothing .kind) ≡ classOf (getD (h .links) j nothing .kind)
+  pub tidy : h .tidy ≡ true
 
 -- Each link may stand right after its neighbour.
 unfoldable pub inOrder : Link → List Link → Bool
@@ -31,4 +33,4 @@ inOrder last (next ∷ rest) = mayFollow last next && inOrder next rest
 
 -- The test of soundness. The first link is tested against (0, 0, 0), which stands before every link in range.
 unfoldable pub isSound : Held → Bool
-isSound h = leb (h .count) most && inOrder nothing (h .links)
+isSound h = h .tidy && (leb (h .count) most && inOrder nothing (h .links))

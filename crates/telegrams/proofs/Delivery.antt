@@ -8,7 +8,7 @@ use mathlib.Core.Bool.{Bool, true, false, cond}
 use mathlib.Core.List.{List, _∷_}
 use mathlib.Core.Option.{Option, none, some, Option·map}
 use lib.ListN.{length, getD, set, take, drop, length-set}
-use lib.Seq.{getD-take, drop-cons}
+use lib.Seq.{drop-cons}
 use lib.Dec.{eqb}
 use borrow.Author.Tests.{eqb-true}
 use Rattle.tags.specs.Tags.{TagSet, places, tagsOf}
@@ -18,10 +18,10 @@ use Rattle.values.specs.Telegrams.{inputOf}
 use Rattle.link.specs.declared.Link.{Link}
 use Rattle.table.specs.Links.{heldOf}
 use Rattle.table.specs.Sound as ofLinks
-use Rattle.link.specs.Link.{nothing}
+use Rattle.link.specs.Link.{nothing, ofWord}
 use Rattle.link.proofs.Ranges.{range-reads}
 use Rattle.table.proofs.Sound.{sound-decided}
-use Rattle.table.proofs.Stores.{few, many}
+use Rattle.table.proofs.Stores.{few, many, held-at}
 use Rattle.panel.specs.declared.Panel.{Panel}
 use Rattle.panel.specs.Panel.{Seat, Model, nobody, seatsOf, modelOf, reseated, eachSeat, onBlind}
 use Rattle.panel.specs.Fields.{withBlinds}
@@ -89,50 +89,49 @@ module _ (value : ℕ) (p : Panel) (start count : ℕ) where
       sym (ap (λ (k : ℕ). delivered value (take k (drop (start + turn) (heldOf (p .table) .links))) (modelOf (withBlinds blinds p))) none-left)
       ∙ so-far .rest
 
-  module _ (sound : Sound (modelOf p)) (room : length (p .table .links) ≡ 512) (fits : start + count ≤ p .table .count) where
+  module _ (sound : Sound (modelOf p)) (room : length (p .table .words) ≡ 512) (fits : start + count ≤ p .table .count) where
     tested : ofLinks.isSound (heldOf (p .table)) ≡ true
     tested = sound-decided (heldOf (p .table)) .1 (sound .links)
 
     full : length (heldOf (p .table) .links) ≡ p .table .count
     full = many (p .table) room (few (p .table) tested)
 
-    held-at : (i : ℕ) → i < start + count → getD (heldOf (p .table) .links) i nothing ≡ getD (p .table .links) i nothing
-    held-at i h = getD-take (p .table .count) (p .table .links) i nothing (omega arith)
+    -- the link that was read at a place
+    module _ (i : ℕ) (at : i < start + count) (link : Link) (read : link ≡ ofWord (getD (p .table .words) i 0)) where
+      here : getD (heldOf (p .table) .links) i nothing ≡ link
+      here = held-at (p .table) i (omega arith) ∙ sym read
 
-    -- the tag of a link is one of the 64
-    pub tag-low : (i : ℕ) → i < start + count → getD (p .table .links) i nothing .tag < places
-    tag-low i h =
-        let range = range-reads (getD (heldOf (p .table) .links) i nothing) (sound .links .in-range i (omega (arith, full))) in
-        let low : getD (heldOf (p .table) .links) i nothing .tag < places = omega (arith, range .tag-high) in
-        rw (held-at i h) at low
+      -- its tag is one of the 64
+      pub tag-low : link .tag < places
+      tag-low =
+          let range = range-reads (getD (heldOf (p .table) .links) i nothing) (sound .links .in-range i (omega (arith, full))) in
+          let low : getD (heldOf (p .table) .links) i nothing .tag < places = omega (arith, range .tag-high) in
+          rw here at low
 
-    -- and it is present
-    tag-there : (i : ℕ) → i < start + count → tagsOf (p .present) (getD (p .table .links) i nothing .tag) ≡ true
-    tag-there i h =
-        ap₂ (λ (s : TagSet) (l : Link). s (l .tag)) (sym (present-tags p)) (sym (held-at i h)) ∙ sound .named i (omega (arith, full))
+      -- and it is present
+      tag-there : tagsOf (p .present) (link .tag) ≡ true
+      tag-there = ap₂ (λ (s : TagSet) (l : Link). s (l .tag)) (sym (present-tags p)) (sym here) ∙ sound .named i (omega (arith, full))
 
-    -- the next link, and those that are left after it
-    left-next : (turn i : ℕ) → turn < count → i ≡ start + turn → left turn ≡ getD (p .table .links) i nothing ∷ left (turn + 1)
-    left-next turn i h e =
-        let ls = heldOf (p .table) .links in
-        let more : count - turn ≡ suc (count - (turn + 1)) = omega arith in
-        let after : i + 1 ≡ start + (turn + 1) = omega (arith, e) in
-        ap₂ (λ (k n : ℕ). take k (drop n ls)) more (sym e)
-        ∙ first-next ls nothing i (count - (turn + 1)) (omega (arith, e, full))
-        ∙ ap₂ (λ (l : Link) (n : ℕ). l ∷ take (count - (turn + 1)) (drop n ls)) (held-at i (omega (arith, e))) after
+      module _ (turn : ℕ) (h : turn < count) (e : i ≡ start + turn) where
+        -- the next link, and those that are left after it
+        left-next : left turn ≡ link ∷ left (turn + 1)
+        left-next =
+            let ls = heldOf (p .table) .links in
+            let more : count - turn ≡ suc (count - (turn + 1)) = omega arith in
+            let after : i + 1 ≡ start + (turn + 1) = omega (arith, e) in
+            ap₂ (λ (k n : ℕ). take k (drop n ls)) more (sym e)
+            ∙ first-next ls nothing i (count - (turn + 1)) (omega (arith, e, full))
+            ∙ ap₂ (λ (l : Link) (n : ℕ). l ∷ take (count - (turn + 1)) (drop n ls)) here after
 
-    -- one turn
-    pub deliver-turn : (blinds : List Blind) (turn i : ℕ) (b : Blind) → turn < count → i ≡ start + turn
-        → b ≡ heeded (inputOf (getD (p .table .links) i nothing .kind) value) (getD blinds (getD (p .table .links) i nothing .tag) nobody)
-        → Delivering blinds turn → Delivering (set blinds (getD (p .table .links) i nothing .tag) b) (turn + 1)
-    unfolding delivered
-    deliver-turn blinds turn i b h e heard so-far =
-        let link = getD (p .table .links) i nothing in
-        let next = withBlinds blinds p in
-        let at : i < start + count = omega (arith, e) in
-        record {
-          room = length-set blinds (link .tag) b ∙ so-far .room;
-          rest =
-              ap (delivered value (left (turn + 1))) (link-served next link value b (tag-there i at) (omega (arith, tag-low i at, so-far .room)) heard)
-              ∙ sym (ap (λ (ls : List Link). delivered value ls (modelOf next)) (left-next turn i h e)) ∙ so-far .rest;
-        }
+        -- one turn
+        pub deliver-turn : (blinds : List Blind) (b : Blind) → b ≡ heeded (inputOf (link .kind) value) (getD blinds (link .tag) nobody)
+            → Delivering blinds turn → Delivering (set blinds (link .tag) b) (turn + 1)
+        unfolding delivered
+        deliver-turn blinds b heard so-far =
+            let next = withBlinds blinds p in
+            record {
+              room = length-set blinds (link .tag) b ∙ so-far .room;
+              rest =
+                  ap (delivered value (left (turn + 1))) (link-served next link value b tag-there (omega (arith, tag-low, so-far .room)) heard)
+                  ∙ sym (ap (λ (ls : List Link). delivered value ls (modelOf next)) left-next) ∙ so-far .rest;
+            }

@@ -6,7 +6,6 @@ use mathlib.Core.Path.{_≡_, refl, sym, ap, ap₂, _∙_}
 use mathlib.Core.Bool.{Bool, true, false, cond, _&&_}
 use mathlib.Core.List.{List, [], _∷_}
 use lib.ListN.{length, getD, take, drop}
-use lib.Seq.{getD-take}
 use lib.Dec.{eqb, ltb}
 use borrow.Author.Tests.{eq-eqb, ne-eqb, lt-ltb, le-ltb, eqb-false}
 use Rattle.answers.specs.Answers.{refusal}
@@ -15,20 +14,20 @@ use Rattle.link.specs.declared.Link.{Link}
 use Rattle.table.specs.declared.Table.{Table}
 use Rattle.kinds.specs.Kinds.{classOf}
 use Rattle.table.specs.Links.{heldOf, linksTo, noLinkTo, startOf, addressClass}
-use Rattle.link.specs.Link.{nothing}
+use Rattle.link.specs.Link.{nothing, ofWord}
 use Rattle.table.specs.Sound.{isSound}
 use Rattle.table.specs.Search.{searched}
 use Rattle.table.proofs.Ranks.{rank-bounded}
 use Rattle.table.proofs.Sound.{Fine, sound-reads}
-use Rattle.table.proofs.Stores.{few, many}
-use Rattle.table.proofs.Halving.{address-searched}
+use Rattle.table.proofs.Stores.{few, many, held-at}
+use Rattle.table.proofs.Halving.{inTable, address-searched}
 use Rattle.table.proofs.Spans.{addresses-up, rank-next, links-found, class-at-start, no-class}
 use Rattle.panel.specs.declared.Panel.{Panel}
 use Rattle.panel.specs.Panel.{Model, modelOf}
 use Rattle.panel.specs.Calls.{outside}
 use Rattle.telegrams.specs.Telegrams.{isOutside, linkChecks, Together, delivered, afterTelegram}
 
-module _ (t : Table) (address : ℕ) (sound : isSound (heldOf t) ≡ true) (room : length (t .links) ≡ 512) where
+module _ (t : Table) (address : ℕ) (sound : isSound (heldOf t) ≡ true) (room : length (t .words) ≡ 512) where
   -- they end where the next address starts
   ends-at : startOf (address + 1) (heldOf t .links) ≡ startOf address (heldOf t .links) + length (linksTo address (heldOf t .links))
   unfolding startOf linksTo
@@ -39,7 +38,7 @@ module _ (t : Table) (address : ℕ) (sound : isSound (heldOf t) ≡ true) (room
   ends-low = omega (arith, ends-at, many t room (few t sound), rank-bounded (λ l. l .address) (address + 1) (heldOf t .links))
 
   -- the searches for the first keys of this address and of the next end where they start and where they end
-  module _ {start end : ℕ} (from : start ≡ searched (address * 65536) (heldOf t .links)) (to : end ≡ searched ((address + 1) * 65536) (heldOf t .links)) where
+  module _ {start end : ℕ} (from : start ≡ searched (address * 65536) (inTable t)) (to : end ≡ searched ((address + 1) * 65536) (inTable t)) where
     starts : start ≡ startOf address (heldOf t .links)
     starts = from ∙ address-searched t sound address
 
@@ -80,9 +79,9 @@ module _ (t : Table) (address : ℕ) (sound : isSound (heldOf t) ≡ true) (room
       first-held = omega (arith, ends-low, linked-some)
 
       -- the first of them has the class of the address
-      first-class : classOf (getD (t .links) start nothing .kind) ≡ addressClass address (heldOf t .links)
+      first-class : classOf (ofWord (getD (t .words) start 0) .kind) ≡ addressClass address (heldOf t .links)
       first-class =
-          ap (λ (l : Link). classOf (l .kind)) (sym (getD-take (t .count) (t .links) start nothing first-held))
+          ap (λ (l : Link). classOf (l .kind)) (sym (held-at t start first-held))
           ∙ ap (λ (k : ℕ). classOf (getD (heldOf t .links) k nothing .kind)) from
           ∙ go (ltb (startOf address (heldOf t .links)) (length (heldOf t .links)) && eqb (getD (heldOf t .links) (startOf address (heldOf t .links)) nothing .address) address) _
           (class-at-start address (heldOf t .links) (addresses-up (heldOf t .links) (fine .ranged) (fine .ascends)))
@@ -94,7 +93,7 @@ module _ (t : Table) (address : ℕ) (sound : isSound (heldOf t) ≡ true) (room
           go true x e = sym e
           go false x e = absurd (eqb-false (addressClass address (heldOf t .links)) 0 (no-class address (heldOf t .links) ∙ linked) e)
 
-      module _ (value : ℕ) {class : ℕ} (told : class ≡ classOf (getD (t .links) start nothing .kind)) where
+      module _ (value : ℕ) {class : ℕ} (told : class ≡ classOf (ofWord (getD (t .words) start 0) .kind)) where
         -- 6: value not of the class
         pub not-of-class : class < value → refusal (linkChecks address value (heldOf t .links)) ≡ 6
         unfolding linkChecks
@@ -116,7 +115,7 @@ pub links-decide : (address value : ℕ) (links : List Link) {n : ℕ} → isOut
 links-decide address value links within e = sym (passed-by (isOutside address value) 1 (linkChecks address value links) within ∙ e)
 
 -- a panel that stands for a delivery to the links of the span is what the telegram leaves
-pub span-delivered : (address value : ℕ) (p : Panel) {start count : ℕ} {n : Model} → isSound (heldOf (p .table)) ≡ true → length (p .table .links) ≡ 512
+pub span-delivered : (address value : ℕ) (p : Panel) {start count : ℕ} {n : Model} → isSound (heldOf (p .table)) ≡ true → length (p .table .words) ≡ 512
     → start ≡ startOf address (heldOf (p .table) .links) → count ≡ length (linksTo address (heldOf (p .table) .links))
     → n ≡ delivered value (take count (drop start (heldOf (p .table) .links))) (modelOf p) → n ≡ afterTelegram address value (modelOf p)
 unfolding afterTelegram

@@ -7,15 +7,16 @@ use answers::NOT_SOUND;
 use answers::OUT_OF_RANGE;
 use answers::WRONG_CELLS;
 use blind::Blind;
-use kinds::class_of_kind;
-use link::ADDRESS_STEP;
 use link::Link;
 use link::is_address;
+use link::words::ADDRESS_STEP;
+use link::words::class_in;
 use outputs::cell;
 use panel::Panel;
 use panel::calls::Answered;
 use rules::heed;
 use table::Table;
+use table::search::below;
 use tags::CELLS;
 use values::Input;
 ghost use Prim.Native.Nat.{_<_, _≤_, _+_};
@@ -25,6 +26,7 @@ ghost use mathlib.Core.List.{_∷_};
 ghost use lib.ListN.{take, drop};
 ghost use Rattle.answers.specs.Answers.{refusal};
 ghost use Rattle.kinds.specs.Kinds.{classOf};
+ghost use Rattle.link.specs.Link.{ofWord};
 ghost use Rattle.table.specs.Links.{heldOf};
 ghost use Rattle.table.specs.Sound as ofLinks;
 ghost use Rattle.rules.specs.Rules.{heeded};
@@ -110,8 +112,9 @@ fn judge(table: Table, address: u64, value: u64) -> Reach
             count: 0,
         };
     }
-    let start = table.below(address * ADDRESS_STEP);
-    let end = table.below((address + 1) * ADDRESS_STEP);
+    let held = table.count;
+    let start = below(&table.words, held, address * ADDRESS_STEP);
+    let end = below(&table.words, held, (address + 1) * ADDRESS_STEP);
     let count = end - start;
     if count == 0 {
         return Reach {
@@ -120,7 +123,7 @@ fn judge(table: Table, address: u64, value: u64) -> Reach
             count,
         };
     }
-    let first = table.links[start];
+    let first = table.words[start];
     if class(first) < value {
         return Reach {
             answer: NOT_OF_THE_CLASS,
@@ -144,10 +147,11 @@ fn is_outside(address: u64, value: u64) -> bool
     LAST_VALUE < value
 }
 
-fn class(link: Link) -> u64
-    ensures { λ r. ⌜ r ≡ classOf (link .kind) ⌝ }
+// The greatest value that a word's kind takes.
+fn class(word: u32) -> u64
+    ensures { λ r. ⌜ r ≡ classOf (ofWord word .kind) ⌝ }
 {
-    class_of_kind(link.kind) as u64
+    class_in(word) as u64
 }
 
 // Each link speaks to the blind of its tag, as the link before left it.
@@ -160,7 +164,8 @@ fn deliver(panel: Panel, reach: Reach, value: u8) -> Panel
     let count = reach.count;
     let mut blinds = panel.blinds;
     for turn in 0..count {
-        let link = table.links[reach.place(turn)];
+        let word = table.words[reach.place(turn)];
+        let link = Link::of(word);
         let tag = link.tag as usize;
         let blind = blinds[tag];
         blinds[tag] = hear(blind, link, value);

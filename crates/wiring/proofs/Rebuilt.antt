@@ -70,7 +70,7 @@ module _ (m : Model) where
   -- every sound panel is the one that its links give afresh
   pub rebuilt : Fine m → (order : List Link) → List·Permᴰ order (m .table .links) → Rebuilt order m
   rebuilt f order perm =
-      let whole : holding (m .table .links) ≡ m .table = ap (λ (n : ℕ). record { count = n; links = m .table .links }) (f .full) in
+      let whole : holding (m .table .links) ≡ m .table = λ i. record { count = f .full i; links = m .table .links; tidy = sym (f .sound .links .tidy) i } in
       let table : Afresh order (holding (m .table .links)) =
       afresh (m .table .links) order (ap ofLinks.isSound whole ∙ sound-decided (m .table) .1 (f .sound .links)) perm in
       let empty : Fine (unlinked m) =

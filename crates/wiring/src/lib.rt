@@ -33,7 +33,7 @@ pub fn add_link(mut panel: Panel, address: u64, tag: u64, kind: u64) -> Answered
     let present = panel.present;
     let table = panel.table;
     let grown = add(table, Link::made(address, tag, kind));
-    let sound = (grown.answer != NOT_SOUND) & all_named(present, table);
+    let sound = (grown.answer != NOT_SOUND) & all_named(present, &table.words, table.count);
     if !sound {
         return Answered {
             answer: NOT_SOUND,
@@ -75,7 +75,7 @@ pub fn remove_link(mut panel: Panel, address: u64, tag: u64, kind: u64) -> Answe
     }
     let table = panel.table;
     let shrunk = remove(table, Link::made(address, tag, kind));
-    let sound = (shrunk.answer != NOT_SOUND) & all_named(panel.present, table);
+    let sound = (shrunk.answer != NOT_SOUND) & all_named(panel.present, &table.words, table.count);
     if !sound {
         return Answered {
             answer: NOT_SOUND,

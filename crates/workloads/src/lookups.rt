@@ -1,9 +1,10 @@
 // The search in the link table, made n times: for the links of an address of the table, each time of another one.
 use crate::panels::address_of;
 use crate::tally::Tally;
-use link::ADDRESS_STEP;
+use link::words::ADDRESS_STEP;
 use panel::Panel;
 use std::num::wrapping_add_u64;
+use table::search::below;
 
 pub(crate) fn lookups(panel: Panel, blinds: u64, links: u64, n: u64) -> Tally {
     let table = panel.table;
@@ -11,7 +12,11 @@ pub(crate) fn lookups(panel: Panel, blinds: u64, links: u64, n: u64) -> Tally {
     let mut place: u64 = 0;
     for _ in 0..n {
         place = further(place, links);
-        let found = table.below(first_key(address_of(place, blinds, links)));
+        let found = below(
+            &table.words,
+            table.count,
+            first_key(address_of(place, blinds, links)),
+        );
         tally = tally.with(0, found as u64);
     }
     tally.with_panel(panel)

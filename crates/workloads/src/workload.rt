@@ -169,7 +169,7 @@ fn bad_blinds(panel: Panel) -> Panel {
 // The last but one link of a full table stands twice.
 fn bad_links(panel: Panel) -> Panel {
     let mut table = panel.table;
-    let link = table.links[509];
-    table.links[510] = link;
+    let word = table.words[509];
+    table.words[510] = word;
     Panel { table, ..panel }
 }

@@ -1,7 +1,6 @@
 -- Each return is one case of the test.
-use borrow.Author.Needs.{needs}
 use Rattle.drops.proofs.places_kept.Statement.{statement}
 use Rattle.drops.proofs.places_kept.Tie as tie
 
 pub places-kept-spec : {M : Type 1} → statement M
-places-kept-spec = tie.close (tie.spec (λ c. search needs) (λ c. rw (c .if1 .taken)) (λ c. rw (c .if1 .left)))
+places-kept-spec = tie.close (tie.spec (λ c. rw (c .if1 .taken)) (λ c. rw (c .if1 .left)))

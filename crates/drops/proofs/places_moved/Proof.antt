@@ -1,5 +1,5 @@
 -- Each return is one case of the two tests.
-use borrow.Author.Needs.{needs}
+use borrow.Author.Tests.{not-true, not-false}
 use Rattle.drops.proofs.places_moved.Statement.{statement}
 use Rattle.drops.proofs.places_moved.Tie as tie
 
@@ -7,7 +7,6 @@ pub places-moved-spec : {M : Type 1} → statement M
 places-moved-spec =
     tie.close
     (tie.spec
-    (λ c. search needs)
-    (λ c. rw (c .if1 .taken))
-    (λ c. rw (c .before .if1 .left, c .if2 .taken))
-    (λ c. rw (c .before .if1 .left, c .if2 .left)))
+    (λ c. rw (not-true (c .before .args .keep) (c .if1 .taken)))
+    (λ c. rw (not-false (c .before .before .args .keep) (c .before .if1 .left), c .if2 .taken))
+    (λ c. rw (not-false (c .before .before .args .keep) (c .before .if1 .left), c .if2 .left)))

@@ -4,13 +4,12 @@ use Prim.Native.Nat.{ℕ, _-_, _≤_, min}
 use native.Mathlib.Omega.{arith}
 use mathlib.Core.Path.{_≡_, sym, ap, _∙_}
 use mathlib.Core.List.{List}
-use lib.ListN.{length, getD, length-take}
-use lib.Seq.{getD-take}
+use lib.ListN.{length, getD}
 use borrow.Author.Needs.{needs}
-use Rattle.laws.proofs.Fills.{long}
 use Rattle.link.specs.declared.Link.{Link}
 use Rattle.table.specs.declared.Table.{Table}
 use Rattle.table.specs.Links.{heldOf}
+use Rattle.table.proofs.Stores.{places, held-at}
 use Rattle.link.specs.Link.{nothing}
 use Rattle.texts.specs.Sheet.{sheet, puts, each}
 use Rattle.texts.proofs.Sheet.{each-none, each-turn, each-all, put-on}
@@ -32,7 +31,7 @@ loop-holds c = (omega arith, (c .least .ensures, sym (each-none _ _)))
 
 loop-again : tie.Need-loop-again Inv-loop μ-loop
 loop-again c =
-    let at = c .before .before .before .before .before .before in
+    let at = c .before .before .before .before .before .before .before in
     let a = at .before .before .before .args in
     let t = a .t3 in (
       omega arith,
@@ -40,7 +39,7 @@ loop-again c =
         at .loop .inv .1 .0,
         each-turn (shown t) (at .loop .i) (sheet (a .out .now) (a .at)) (at .loop .inv .1 .1)
             (c .before .before .put-link .ensures
-            ∙ ap (λ (l : Link). puts (linkText l) (sheet (at .loop .out) (at .loop .next))) (sym (getD-take (t .count) (t .links) (at .loop .i) nothing (omega (arith, at .loop .inv .1 .0))))),
+            ∙ ap (λ (l : Link). puts (linkText l) (sheet (at .loop .out) (at .loop .next))) (c .before .before .before .before .of .ensures ∙ sym (held-at t (at .loop .i) (omega (arith, at .loop .inv .1 .0))))),
       ),
     )
 
@@ -53,9 +52,8 @@ returns : tie.Need-returns Inv-loop μ-loop
 unfolding linksText
 returns c =
     let a = c .before .before .before .before .args in
-    let whole : length (a .t3 .links) ≡ 512 = search (long, needs) in
-    let held : length (heldOf (a .t3) .links) ≡ min (a .t3 .count) (length (a .t3 .links)) = length-take (a .t3 .count) (a .t3 .links) in
-    each-all (shown (a .t3)) (c .before .loop .i) (length (heldOf (a .t3) .links)) (sheet (a .out .now) (a .at)) (omega (arith, held, whole, c .before .loop .inv .1 .0)) (c .before .loop .inv .1 .1)
+    let whole : length (a .t3 .words) ≡ 512 = search needs in
+    each-all (shown (a .t3)) (c .before .loop .i) (length (heldOf (a .t3) .links)) (sheet (a .out .now) (a .at)) (omega (arith, places (a .t3), whole, c .before .loop .inv .1 .0)) (c .before .loop .inv .1 .1)
 
 pub put-links-spec : {M : Type 1} → statement M
 put-links-spec =
@@ -65,7 +63,7 @@ put-links-spec =
     μ-loop
     (λ c κs. search needs)
     loop-holds
-    (λ c. search needs) (λ c. omega arith) (λ c κs. search needs) (λ c. search needs) (λ c. omega arith)
+    (λ c. search needs) (λ c. omega arith) (λ c κs. search needs) (λ c κs. search needs) (λ c. search needs) (λ c. omega arith)
     loop-again
     same-length
     returns)

@@ -14,7 +14,7 @@ use Rattle.removals.proofs.drop_links.Tie as tie
 returns : tie.Need-returns
 returns c =
     let start = c .before .before in
-    let h = heldOf (start .args .table) in (
+    let h = heldOf (start .args .t2) in (
       tag-told (start .args .tag) (c .remove-tag .result) h (c .remove-tag .ensures)
           ∙ ap (λ (k : ℕ). first k (unsound h ∷ [])) (sym (c .before .if1 .taken)),
       λ zero. c .remove-tag .ensures,
@@ -27,7 +27,7 @@ judged false n = refl
 
 returns-2 : tie.Need-returns-2
 returns-2 c =
-    let one = c .before .before in (
+    let one = c .before .before .before .before .before in (
       c .if-sound .ensures ∙ judged (c .before .is-sound .result) (one .before .args .own)
           ∙ ap (λ (b : Bool). first (one .before .args .own) ((not b, 12) ∷ [])) (c .before .is-sound .ensures),
       λ zero. absurd (one .if1 .left zero),

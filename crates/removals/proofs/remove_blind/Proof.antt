@@ -18,10 +18,10 @@ use Rattle.removals.proofs.remove_blind.Tie as tie
 
 -- the number of the rule
 number : (c : tie.After-if-sound)
-    → (let start = c .before .before .before .before .before .before .before .before .before in
+    → (let start = c .before .before .before .before .before .before .before .before .before .before .before .before in
     refusal (removeRule (start .args .tag) .checks (modelOf (start .args .t1)) noCells) ≡ c .if-sound .result)
 number c =
-    let edit = c .before .before in
+    let edit = c .before .before .before .before .before in
     let own = edit .before .before in
     let one = own .before .before .before in
     remove-judged (one .before .before .args .t1) _ (own .judge-named .ensures) (sym (one .before .seats-sound .ensures) ∙ not-false _ (one .if1 .left))
@@ -38,7 +38,7 @@ returns-3 : tie.Need-returns-3
 unfolding removeRule
 returns-3 c =
     let two = c .before .before in
-    let edit = two .before .before .before in
+    let edit = two .before .before .before .before .before .before in
     let own = edit .before .before in
     let start = own .before .before .before .before .before in
     let p = start .args .t1 in

@@ -8,7 +8,6 @@ use lib.ListN.{length}
 use borrow.Author.Needs.{needs}
 use Rattle.answers.specs.Answers.{refusal}
 use Rattle.answers.proofs.Refusals.{refused-by}
-use Rattle.laws.proofs.Fills.{long}
 use Rattle.table.specs.Links.{heldOf}
 use Rattle.table.proofs.Stores.{few}
 use Rattle.panel.specs.Calls.{outside}
@@ -26,8 +25,8 @@ within : (c : tie.Else1) → isOutside (c .before .before .args .address) (c .be
 within c = sym (c .before .is-outside .ensures) ∙ c .if1 .left
 
 -- the table has its 512 places
-room : (c : tie.Start) → length (c .args .t1 .links) ≡ 512
-room c = search (long, needs)
+room : (c : tie.Start) → length (c .args .t1 .words) ≡ 512
+room c = search needs
 
 -- past the range the links decide
 decided : (c : tie.Else1) {n : ℕ} → refusal (linkChecks (c .before .before .args .address) (c .before .before .args .value) (heldOf (c .before .before .args .t1) .links)) ≡ n
@@ -37,43 +36,54 @@ decided c = links-decide (c .before .before .args .address) (c .before .before .
 low : (c : tie.Else1) → c .before .before .args .address ≤ 65535
 low c = inside _ _ (within c) .address-high
 
--- the links of the address stand between where the two searches end
-up : (c : tie.After-below2) → c .before .below .result ≤ c .below2 .result
-up c =
-    let start = c .before .before .before .before in
-    starts-low (start .args .t1) (start .args .address) (start .pre) (room start) (c .before .below .ensures) (c .below2 .ensures)
+-- the first search, and the start, seen from the second
+abbrev first : tie.After-below2 → tie.After-below
+first c = c .before .before .before .before
 
-span : (c : tie.After-below2) → Together (c .before .before .before .before .args .address) (heldOf (c .before .before .before .before .args .t1) .links) (c .before .below .result) (c .below2 .result - c .before .below .result)
+abbrev start : tie.After-below2 → tie.Start
+start c = first c .before .before .before .before .before .before
+
+-- the links of the address stand between where the two searches end
+up : (c : tie.After-below2) → first c .below .result ≤ c .below2 .result
+up c =
+    let from = start c in
+    starts-low (from .args .t1) (from .args .address) (from .pre) (room from) (first c .below .ensures) (c .below2 .ensures)
+
+span : (c : tie.After-below2) → Together (start c .args .address) (heldOf (start c .args .t1) .links) (first c .below .result) (c .below2 .result - first c .below .result)
 span c =
-    let start = c .before .before .before .before in
-    together (start .args .t1) (start .args .address) (start .pre) (room start) (c .before .below .ensures) (c .below2 .ensures)
+    let from = start c in
+    together (from .args .t1) (from .args .address) (from .pre) (room from) (first c .below .ensures) (c .below2 .ensures)
+
+-- the numbers were in range
+abbrev ranged : tie.After-below2 → tie.Else1
+ranged c = first c .before .before .before .before
 
 returns-2 : tie.Need-returns-2
 returns-2 c =
-    let start = c .before .before .before .before .before in
+    let from = start (c .before) in
     let found = span (c .before) in
-    (decided (c .before .before .before) (no-link (start .args .t1) (start .args .address) (start .pre) (room start) (found .from) (found .counted) (start .args .value) (c .if2 .taken)), λ e. absurd (omega arith))
+    (decided (ranged (c .before)) (no-link (from .args .t1) (from .args .address) (from .pre) (room from) (found .from) (found .counted) (from .args .value) (c .if2 .taken)), λ e. absurd (omega arith))
 
 -- the first link of the address is in the table
 first-in : tie.Need-element-copy-out-first
 first-in c =
-    let start = c .before .before .before .before .before in
+    let from = start (c .before) in
     let found = span (c .before) in
-    omega (arith, first-held (start .args .t1) (start .args .address) (start .pre) (room start) (found .from) (found .counted) (c .if2 .left), few (start .args .t1) (start .pre))
+    omega (arith, first-held (from .args .t1) (from .args .address) (from .pre) (room from) (found .from) (found .counted) (c .if2 .left), few (from .args .t1) (from .pre))
 
 returns-3 : tie.Need-returns-3
 returns-3 c =
     let two = c .before .before .before in
-    let start = two .before .before .before .before .before in
+    let from = start (two .before) in
     let found = span (two .before) in
-    (decided (two .before .before .before) (not-of-class (start .args .t1) (start .args .address) (start .pre) (room start) (found .from) (found .counted) (two .if2 .left) (start .args .value) (c .before .class .ensures) (c .if3 .taken)), λ e. absurd (omega arith))
+    (decided (ranged (two .before)) (not-of-class (from .args .t1) (from .args .address) (from .pre) (room from) (found .from) (found .counted) (two .if2 .left) (from .args .value) (c .before .class .ensures) (c .if3 .taken)), λ e. absurd (omega arith))
 
 returns-4 : tie.Need-returns-4
 returns-4 c =
     let two = c .before .before .before in
-    let start = two .before .before .before .before .before in
+    let from = start (two .before) in
     let found = span (two .before) in
-    (decided (two .before .before .before) (of-class (start .args .t1) (start .args .address) (start .pre) (room start) (found .from) (found .counted) (two .if2 .left) (start .args .value) (c .before .class .ensures) (c .if3 .left)), λ e. found)
+    (decided (ranged (two .before)) (of-class (from .args .t1) (from .args .address) (from .pre) (room from) (found .from) (found .counted) (two .if2 .left) (from .args .value) (c .before .class .ensures) (c .if3 .left)), λ e. found)
 
 pub judge-spec : {M : Type 1} → statement M
 judge-spec =
@@ -81,10 +91,10 @@ judge-spec =
     (tie.spec
     (λ c κs. search needs)
     returns
-    (λ c. omega (arith, low c))
+    (λ c. omega (arith, low (c .before .before .before)))
     (λ c κs. search needs)
-    (λ c. omega (arith, low (c .before)))
-    (λ c. omega (arith, low (c .before)))
+    (λ c. omega (arith, low (c .before .before .before .before .before .before .before)))
+    (λ c. omega (arith, low (c .before .before .before .before .before .before .before)))
     (λ c κs. search needs)
     (λ c. omega (arith, up c))
     returns-2

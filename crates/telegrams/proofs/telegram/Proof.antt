@@ -77,8 +77,8 @@ range c =
     (sym (c .before .judge .ensures .0) ∙ c .if3 .left) .0)
 
 -- the table has its 512 places
-room : (c : tie.Start Inv-loop μ-loop) → length (c .args .t1 .table .links) ≡ 512
-room c = search (long, needs)
+room : (c : tie.Start Inv-loop μ-loop) → length (c .args .t1 .table .words) ≡ 512
+room c = search needs
 
 -- the panel that is handed back
 left : (c : tie.After-deliver Inv-loop μ-loop) → modelOf (c .deliver .result) ≡ afterTelegram (start c .args .address) (start c .args .value) (modelOf (start c .args .t1))

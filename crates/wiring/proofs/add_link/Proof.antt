@@ -29,26 +29,32 @@ asked start = linkOf (start .args .address) (start .args .tag) (start .args .kin
 same : (c : tie.After-made) → inRange (asked (c .before .before .before .before .before)) ≡ true → c .made .result ≡ asked (c .before .before .before .before .before)
 same c fits = c .made .ensures ∙ made-fits _ _ _ fits
 
+-- the table's own edit, and the start, seen after the names
+abbrev edit : tie.After-all-named → tie.After-add
+edit c = c .before .before .before .before .before
+
+abbrev start : tie.After-all-named → tie.Start
+start c = edit c .before .before .before .before .before .before
+
 -- whether the panel is sound
-whole : (c : tie.After-all-named)
-    → not (eqb (c .before .before .add .result .answer) 12) && c .all-named .result ≡ isSound (modelOf (c .before .before .before .before .before .before .before .before .args .panel))
+whole : (c : tie.After-all-named) → not (eqb (edit c .add .result .answer) 12) && c .all-named .result ≡ isSound (modelOf (start c .args .panel))
 whole c =
-    let edit = c .before .before in
-    let passed = edit .before .before .before .before in
+    let done = edit c in
+    let passed = done .before .before .before .before in
     whole-sound (passed .before .before .args .panel) (sym (passed .before .seats-sound .ensures) ∙ not-false _ (passed .if1 .left))
-    (add-sound-told _ _ (edit .add .result) (modelOf (passed .before .before .args .panel)) noCells (same (edit .before)) (edit .add .ensures))
+    (add-sound-told _ _ (done .add .result) (modelOf (passed .before .before .args .panel)) noCells (same (done .before)) (done .add .ensures))
     (c .all-named .ensures)
 
-sound : (c : tie.Else2) → isSound (modelOf (c .before .before .before .before .before .before .before .before .before .args .panel)) ≡ true
+sound : (c : tie.Else2) → isSound (modelOf (start (c .before) .args .panel)) ≡ true
 sound c = sym (whole (c .before)) ∙ not-false _ (c .if2 .left)
 
 -- the number of the rule
 number : (c : tie.After-judge-new)
-    → refusal (addRule (asked (c .before .before .before .before .before .before .before .before .before .before .before .before .before)) .checks (modelOf (c .before .before .before .before .before .before .before .before .before .before .before .before .before .args .panel)) noCells) ≡ c .judge-new .result
+    → (let from = start (c .before .before .before .before .before) in refusal (addRule (asked from) .checks (modelOf (from .args .panel)) noCells) ≡ c .judge-new .result)
 number c =
     let two = c .before .before .before .before in
-    let edit = two .before .before .before in
-    add-refusal _ _ (edit .add .result) _ noCells (same (edit .before)) (edit .add .ensures) (sound two)
+    let done = edit (two .before) in
+    add-refusal _ _ (done .add .result) _ noCells (same (done .before)) (done .add .ensures) (sound two)
     (c .before .before .fits2 .ensures) (sym (present-at _ _ (c .before .has .ensures))) (c .judge-new .ensures)
 
 returns : tie.Need-returns
@@ -65,11 +71,12 @@ returns-3 c = refuses-with _ _ _ _ (c .if3 .taken) (number (c .before))
 returns-4 : tie.Need-returns-4
 unfolding addRule
 returns-4 c =
-    let edit = c .before .before .before .before .before .before .before .before in
-    let p = edit .before .before .before .before .before .before .args .panel in
+    let named = c .before .before .before .before .before .before in
+    let done = edit named in
+    let p = start named .args .panel in
     let zero = number (c .before) ∙ c .if3 .left in
-    let left = add-done _ _ (edit .add .result) (modelOf p) noCells (same (edit .before)) (edit .add .ensures) zero in
-    does _ _ _ zero refl (left .0) (table-written p (edit .add .result .table) (left .1)) refl
+    let left = add-done _ _ (done .add .result) (modelOf p) noCells (same (done .before)) (done .add .ensures) zero in
+    does _ _ _ zero refl (left .0) (table-written p (done .add .result .table) (left .1)) refl
 
 pub add-link-spec : {M : Type 1} → statement M
 add-link-spec =

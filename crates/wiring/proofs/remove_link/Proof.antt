@@ -28,26 +28,32 @@ asked start = linkOf (start .args .address) (start .args .tag) (start .args .kin
 same : (c : tie.After-made) → inRange (asked (c .before .before .before .before)) ≡ true → c .made .result ≡ asked (c .before .before .before .before)
 same c fits = c .made .ensures ∙ made-fits _ _ _ fits
 
+-- the table's own edit, and the start, seen after the names
+abbrev edit : tie.After-all-named → tie.After-remove
+edit c = c .before .before .before .before .before
+
+abbrev start : tie.After-all-named → tie.Start
+start c = edit c .before .before .before .before .before
+
 -- whether the panel is sound
-whole : (c : tie.After-all-named)
-    → not (eqb (c .before .before .remove .result .answer) 12) && c .all-named .result ≡ isSound (modelOf (c .before .before .before .before .before .before .before .args .panel))
+whole : (c : tie.After-all-named) → not (eqb (edit c .remove .result .answer) 12) && c .all-named .result ≡ isSound (modelOf (start c .args .panel))
 whole c =
-    let edit = c .before .before in
-    let passed = edit .before .before .before in
+    let done = edit c in
+    let passed = done .before .before .before in
     whole-sound (passed .before .before .args .panel) (sym (passed .before .seats-sound .ensures) ∙ not-false _ (passed .if1 .left))
-    (remove-sound-told _ _ (edit .remove .result) (modelOf (passed .before .before .args .panel)) noCells (same (edit .before)) (edit .remove .ensures))
+    (remove-sound-told _ _ (done .remove .result) (modelOf (passed .before .before .args .panel)) noCells (same (done .before)) (done .remove .ensures))
     (c .all-named .ensures)
 
-sound : (c : tie.Else2) → isSound (modelOf (c .before .before .before .before .before .before .before .before .args .panel)) ≡ true
+sound : (c : tie.Else2) → isSound (modelOf (start (c .before) .args .panel)) ≡ true
 sound c = sym (whole (c .before)) ∙ not-false _ (c .if2 .left)
 
 -- the number of the rule
 number : (c : tie.After-judge-old)
-    → refusal (removeLinkRule (asked (c .before .before .before .before .before .before .before .before .before .before)) .checks (modelOf (c .before .before .before .before .before .before .before .before .before .before .args .panel)) noCells) ≡ c .judge-old .result
+    → (let from = start (c .before .before .before) in refusal (removeLinkRule (asked from) .checks (modelOf (from .args .panel)) noCells) ≡ c .judge-old .result)
 number c =
     let two = c .before .before in
-    let edit = two .before .before .before in
-    remove-refusal _ _ (edit .remove .result) _ noCells (same (edit .before)) (edit .remove .ensures) (sound two)
+    let done = edit (two .before) in
+    remove-refusal _ _ (done .remove .result) _ noCells (same (done .before)) (done .remove .ensures) (sound two)
     (c .before .fits2 .ensures) (c .judge-old .ensures)
 
 returns : tie.Need-returns
@@ -64,11 +70,12 @@ returns-3 c = refuses-with _ _ _ _ (c .if3 .taken) (number (c .before))
 returns-4 : tie.Need-returns-4
 unfolding removeLinkRule
 returns-4 c =
-    let edit = c .before .before .before .before .before .before .before in
-    let p = edit .before .before .before .before .before .args .panel in
+    let named = c .before .before .before .before .before in
+    let done = edit named in
+    let p = start named .args .panel in
     let zero = number (c .before .before) ∙ c .before .if3 .left in
-    let left = remove-done _ _ (edit .remove .result) (modelOf p) noCells (same (edit .before)) (edit .remove .ensures) zero in
-    does _ _ _ zero refl (left .0) (table-written p (edit .remove .result .table) (left .1)) refl
+    let left = remove-done _ _ (done .remove .result) (modelOf p) noCells (same (done .before)) (done .remove .ensures) zero in
+    does _ _ _ zero refl (left .0) (table-written p (done .remove .result .table) (left .1)) refl
 
 pub remove-link-spec : {M : Type 1} → statement M
 remove-link-spec =

@@ -18,10 +18,12 @@ is-sound-spec =
     (λ c κs. search needs)
     (λ c. sym (seats-fail _ (sym (c .before .seats-sound .ensures) ∙ not-true _ (c .if1 .taken))))
     (λ c κs. search needs)
-    (λ c. sym (links-fail (modelOf (c .before .before .before .before .before .args .self)) (sym (c .before .is-sound .ensures) ∙ not-true _ (c .if2 .taken))))
+    (λ c. sym (links-fail (modelOf (c .before .before .before .before .before .before .before .before .args .self)) (sym (c .before .is-sound .ensures) ∙ not-true _ (c .if2 .taken))))
     (λ c κs. search needs)
     (λ c.
-    let p = c .before .before .before .before .before .before .args .self in
+    let tested = c .before .before .before .before .before in
+    let seated = tested .before .before .before .before .before in
+    let p = seated .before .before .args .self in
     c .all-named .ensures ∙ ap (λ (s : TagSet). allNamed s (heldOf (p .table) .links)) (sym (present-tags p))
-    ∙ sym (names-decide (modelOf p) (sym (c .before .before .before .before .before .seats-sound .ensures) ∙ not-false _ (c .before .before .before .before .if1 .left))
-    (sym (c .before .before .is-sound .ensures) ∙ not-false _ (c .before .if2 .left)))))
+    ∙ sym (names-decide (modelOf p) (sym (seated .before .seats-sound .ensures) ∙ not-false _ (seated .if1 .left))
+    (sym (tested .is-sound .ensures) ∙ not-false _ (c .before .before .before .before .if2 .left)))))

@@ -1,73 +1,60 @@
--- The links that failed so far and those left to fail are all that fail; none does exactly if each names a present blind.
-use Prim.Native.Nat.{_+_, _-_, _≤_, _<_, min}
+-- What was found so far and the words that are left tell whether each link names a present blind; at the end none is left.
+use Prim.Native.Nat.{ℕ, _-_, _^_, _<_}
 use native.Mathlib.Omega.{arith}
-use mathlib.Core.Path.{_≡_, sym, ap, _∙_}
-use mathlib.Core.Bool.{Bool, cond}
-use lib.ListN.{length, getD, drop, length-take}
-use lib.Dec.{eqb}
+use mathlib.Core.Path.{_≡_, refl, sym, ap, _∙_}
+use mathlib.Core.Bool.{_&&_}
+use lib.ListN.{getD, take, drop, length-take}
+use lib.Seq.{getD-take}
+use lib.Bits.{bitOr}
+use lib.Dec.{ltb}
+use denote.Ref.{now}
 use borrow.Author.Needs.{needs}
-use Rattle.laws.proofs.Fills.{long}
-use Rattle.laws.proofs.Counts.{failing, once, none-failing, failing-start, failing-more, failing-end}
-use Rattle.tags.specs.Tags.{TagSet, tagsOf}
-use Rattle.link.specs.declared.Link.{Link}
-use Rattle.table.specs.Links.{heldOf}
-use Rattle.table.proofs.Stores.{held-at}
-use Rattle.link.specs.Link.{nothing}
-use Rattle.panel.specs.Sound.{allNamed}
+use Rattle.laws.specs.Every.{every}
+use Rattle.laws.proofs.Every.{every-on, every-over}
+use Rattle.link.specs.Link.{ofWord}
+use Rattle.tags.specs.Tags.{places}
+use Rattle.panel.proofs.Names.{near, even, foundIn, found-joined, words-named}
 use Rattle.panel.proofs.soundness.all_named.Statement.{statement}
 use Rattle.panel.proofs.soundness.all_named.Tie as tie
 
-abbrev named : TagSet → Link → Bool
-named present link = present (link .tag)
-
 abbrev Inv-loop : tie.InvT-loop
-Inv-loop present table end missing₀ i₀ missing i =
-    (i ≤ end)
-    × (missing ≤ i)
-    × (missing + failing (named (tagsOf present)) (drop i (heldOf table .links)) ≡ failing (named (tagsOf present)) (heldOf table .links))
+Inv-loop words count free end joined₀ missing₀ i₀ joined missing i =
+    (near joined && even missing) && every (foundIn free) (drop i (take count words)) ≡ every (foundIn free) (take count words)
 
 abbrev μ-loop : tie.MeasureT-loop
-μ-loop present table end missing₀ i₀ missing i = end - i
+μ-loop words count free end joined₀ missing₀ i₀ joined missing i = end - i
 
--- as many links are held as are walked through
-many : (c : tie.After-held Inv-loop μ-loop) → length (heldOf (c .before .args .t2) .links) ≡ c .held .result
-many c =
-    let whole : length (c .before .args .t2 .links) ≡ 512 = search (long, needs) in
-    length-take (c .before .args .t2 .count) (c .before .args .t2 .links) ∙ ap (min (c .before .args .t2 .count)) whole ∙ sym (c .held .ensures)
-
--- a link adds one at most
-one-more : (c : tie.After-misses Inv-loop μ-loop) → c .misses .result ≤ 1
-one-more c =
-    let start = c .before .before .before .before in
-    once (tagsOf (start .before .args .present) (getD (start .before .args .t2 .links) (c .before .before .before .loop .i) nothing .tag)) (c .misses .ensures)
-
-sum-fits : tie.Need-add-missing Inv-loop μ-loop
-sum-fits c = omega (arith, one-more c)
+loop-holds : tie.Need-loop-holds Inv-loop μ-loop
+unfolding ofWord
+loop-holds c = refl
 
 loop-again : tie.Need-loop-again Inv-loop μ-loop
 loop-again c =
     let at = c .before .before .before in
-    let start = at .before in
-    let t = start .before .args .t2 in
-    let present = start .before .args .present in
-    let here : at .loop .i < t .count = omega (arith, start .held .ensures) in (
-      omega arith,
-      omega (arith, one-more c),
-      failing-more (named (tagsOf present)) (heldOf t .links) nothing (at .loop .i) (at .loop .missing) (c .misses .result) (omega (arith, many start))
-          (c .misses .ensures
-          ∙ ap (λ (l : Link). cond (tagsOf present (l .tag)) 0 1) (sym (held-at t (at .loop .i) here)))
-          (at .loop .inv .2),
-    )
+    let start = at .before .before .before .before in
+    let words = now (start .args .words) in
+    let count = start .args .count in
+    let free = 2 ^ 64 - 1 - start .args .present .word in
+    let i = at .loop .i in
+    let here : i < count = omega (arith, c .before .before .loop-test .taken, at .before .smaller .ensures) in
+    let same : getD (take count words) i 0 ≡ getD words i 0 = getD-take count words i 0 here in
+    every-on (foundIn free) (take count words) 0 i (near (at .loop .joined) && even (at .loop .missing))
+    (near (bitOr (at .loop .joined) (getD words i 0)) && even (bitOr (at .loop .missing) (c .from-tag .result)))
+    (omega (arith, length-take count words, c .before .before .loop-test .taken, at .before .smaller .ensures))
+    (found-joined free (getD words i 0) (at .loop .joined) (at .loop .missing) (c .from-tag .ensures)
+    ∙ ap (λ (w : ℕ). (near (at .loop .joined) && even (at .loop .missing)) && foundIn free w) (sym same)) (at .loop .inv)
 
 returns : tie.Need-returns Inv-loop μ-loop
-unfolding allNamed
 returns c =
-    let at = c .before in
-    let start = at .before in
-    let t = start .before .args .t2 in
-    let present = start .before .args .present in
-    ap (λ n. eqb n 0) (failing-end (named (tagsOf present)) (heldOf t .links) nothing (at .loop .i) (at .loop .missing) (omega (arith, many start)) (at .loop .inv .2))
-    ∙ none-failing (named (tagsOf present)) (heldOf t .links)
+    let at = c .before .before in
+    let start = at .before .before .before .before in
+    let words = now (start .args .words) in
+    let count = start .args .count in
+    let free = 2 ^ 64 - 1 - start .args .present .word in
+    ap (λ (t : ℕ). ltb t places && even (at .loop .missing)) (c .tag-in .ensures)
+    ∙ every-over (foundIn free) (take count words) 0 (at .loop .i) (near (at .loop .joined) && even (at .loop .missing))
+    (omega (arith, length-take count words, c .before .loop-test .left, at .before .smaller .ensures)) (at .loop .inv)
+    ∙ words-named (start .args .present .word) (omega arith) (take count words)
 
 pub all-named-spec : {M : Type 1} → statement M
 all-named-spec =
@@ -76,11 +63,12 @@ all-named-spec =
     Inv-loop
     μ-loop
     (λ c κs. search needs)
-    (λ c. (omega arith, omega arith, failing-start _ _))
-    (λ c. omega (arith, c .before .before .held .ensures))
-    (λ c. omega (arith, c .before .before .held .ensures))
+    loop-holds
+    (λ c. omega (arith, c .before .before .smaller .ensures))
+    (λ c. omega (arith, c .before .before .before .smaller .ensures))
     (λ c κs. search needs)
-    sum-fits
-    (λ c. omega arith) (λ c. omega arith)
+    (λ c. omega arith)
+    (λ c. omega arith)
     loop-again
+    (λ c κs. search needs)
     returns)
