@@ -252,6 +252,7 @@ static void run(struct workload w)
     fit(&first, w.blinds, w.links - adds, w.call < FIRST_EDIT);
     if (w.kase == BAD_BLINDS)
         first.blinds[TAGS - 1].terminal = first.blinds[0].terminal;
+    /* Both places are in use, with 511 links and with 512: a link stands twice. */
     if (w.kase == BAD_LINKS)
         first.links[LINKS - 2] = first.links[LINKS - 3];
     struct panel panel = first;

@@ -462,9 +462,22 @@ static int links_are_sound(const struct panel *panel)
     return 1;
 }
 
+/* K4: "Unused words are 0, and a panel that breaks this is answered 12." Here
+   a link is three numbers, and all three are 0. */
+static int unused_places_are_0(const struct panel *panel)
+{
+    for (uint64_t place = panel->link_count; place < LINKS; place++) {
+        struct link unused = panel->links[place];
+        if (unused.address != 0 || unused.tag != 0 || unused.kind != 0)
+            return 0;
+    }
+    return 1;
+}
+
 int is_sound(const struct panel *panel)
 {
-    return blinds_are_sound(panel) && links_are_sound(panel);
+    return blinds_are_sound(panel) && links_are_sound(panel)
+        && unused_places_are_0(panel);
 }
 
 /* ---- Answers --------------------------------------------------------- */
@@ -518,7 +531,8 @@ struct answer install(struct panel *panel, uint64_t tag, uint64_t terminal,
 }
 
 /* Drops the links of this tag; answers "how many surviving links stand at
-   another place than before". */
+   another place than before". The freed places become 0, since K4 wants that
+   of unused ones. */
 static uint64_t drop_links_of(struct panel *panel, uint64_t tag)
 {
     uint64_t kept = 0, moved = 0;
@@ -590,7 +604,7 @@ static uint64_t insert_at(struct panel *panel, uint64_t place, struct link link)
 }
 
 /* Takes the link at this place out; answers how many links had to move
-   down. */
+   down. The freed place becomes 0, since K4 wants that of unused ones. */
 static uint64_t take_out_at(struct panel *panel, uint64_t place)
 {
     uint64_t moved = 0;

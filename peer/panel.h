@@ -1,7 +1,8 @@
 /* Document 01 written in C a second time, from the paper alone: the judge
    that the first implementation is compared with. Plain on purpose: the
    panel is one struct, the table is a sorted array, a time step is a loop
-   over milliseconds. Words in quotation marks are document 01's. */
+   over milliseconds. Words in quotation marks are document 01's; those after
+   "K4:" are that request's, in document 02. */
 
 #ifndef PANEL_H
 #define PANEL_H
@@ -87,7 +88,7 @@ struct link {
 
 struct panel {
     struct blind blinds[TAGS]; /* by tag */
-    struct link links[LINKS];  /* the first link_count places are used */
+    struct link links[LINKS];  /* the first link_count are used, the rest are 0 */
     uint64_t link_count;
 };
 
@@ -110,7 +111,8 @@ struct blind fresh_blind(uint64_t terminal, struct parameters parameters);
 /* A panel without blinds and links. */
 struct panel empty_panel(void);
 
-/* The paragraph "Sound". Total: any contents may be handed over. */
+/* The paragraph "Sound", and K4's unused places. Total: any contents may be
+   handed over. */
 int is_sound(const struct panel *panel);
 
 /* How many links come before this one: its place, if it is in the table,

@@ -1,6 +1,8 @@
 /* What a script cannot show: answer 11 for each wrong number of lent cells,
-   and answer 12 for each clause of the paragraph "Sound", by every call that
-   takes a panel, in the order 11, 12, 1, with panel and cells untouched. */
+   and answer 12 for each clause of the paragraph "Sound" and for anything in
+   an unused link place, by every call that takes a panel, in the order 11,
+   12, 1, with panel and cells untouched. Also: a removal leaves 0 in the
+   places that it frees. */
 
 #include "panel.h"
 
@@ -135,9 +137,90 @@ static void links(void)
     DAMAGE(p.blinds[7].present = 0);
     HARMLESS(p.links[1].kind = STOP);
     HARMLESS(p.links[1].kind = WA);
-    HARMLESS(p.links[100].kind = 99);
-    HARMLESS(p.link_count = 0);
 }
+
+/* ---- Unused link places ---------------------------------------------- */
+
+/* Adds links of blind 1 behind the others until the table has this many. */
+static void fill_up_to(struct panel *panel, uint64_t many)
+{
+    for (uint64_t place = panel->link_count; place < many; place++)
+        add_link(panel, 1000 + place, 1, MUD);
+}
+
+/* K4: "Unused words are 0, and a panel that breaks this is answered 12." The
+   sound panel has 35 links, so its unused places are 35 to 511. */
+static void unused_places(void)
+{
+    DAMAGE(p.links[35].address = 1);
+    DAMAGE(p.links[35].tag = 1);
+    DAMAGE(p.links[35].kind = 1);
+    DAMAGE(p.links[511].address = 1);
+    DAMAGE(p.links[511].tag = 1);
+    DAMAGE(p.links[511].kind = 1);
+    DAMAGE(p.links[100].kind = 99);
+    DAMAGE(p.links[35] = p.links[34]);
+    DAMAGE(p.links[35] = p.links[34]; p.links[35].address = 500);
+    DAMAGE(p.link_count = 34);
+    DAMAGE(p.link_count = 0);
+    DAMAGE(p = empty_panel(); p.links[0].kind = 1);
+    DAMAGE(p = empty_panel(); p.links[511].kind = 1);
+    DAMAGE(fill_up_to(&p, 511); p.links[511].kind = 1);
+    DAMAGE(fill_up_to(&p, 512); p.link_count = 511);
+    HARMLESS(p = empty_panel());
+    HARMLESS(fill_up_to(&p, 511));
+    HARMLESS(fill_up_to(&p, 512));
+    HARMLESS(memset(p.links, 0, sizeof p.links); p.link_count = 0);
+}
+
+/* Compares the bytes: the peer's own test is what is tried here. */
+static int is_0_from(const struct panel *panel, uint64_t place)
+{
+    static const struct link none[LINKS];
+    return memcmp(panel->links + place, none, (LINKS - place) * sizeof none[0]) == 0;
+}
+
+/* After the removal `left` links are left, all places behind them are 0, and
+   calls are accepted. */
+static void expect_freed(struct panel *panel, struct answer removal, uint64_t left,
+                         const char *what)
+{
+    uint16_t cells[TERMINALS];
+    expect(removal.number == DONE && panel->link_count == left, what);
+    expect(is_0_from(panel, left), what);
+    expect(inventory(panel).number == DONE, what);
+    expect(strip_reading(panel, cells, TERMINALS).number == DONE, what);
+    expect(time_step(panel, 0, cells, TAGS).number == DONE, what);
+    expect(add_link(panel, 65535, 2, MUD).number == DONE, what);
+    expect(telegram(panel, 65535, 0, cells, TAGS).count == 1, what);
+    expect(remove_link(panel, 65535, 2, MUD).number == DONE, what);
+    expect(is_0_from(panel, left), what);
+}
+
+/* A removal from a sound panel with `many` links leaves `left` of them. */
+#define FREED(many, removal, left)                                          \
+    do {                                                                    \
+        static struct panel p;                                              \
+        p = sound_panel();                                                  \
+        fill_up_to(&p, many);                                               \
+        expect(p.link_count == many, #removal);                             \
+        expect_freed(&p, removal, left, #removal);                          \
+    } while (0)
+
+static void freed_places(void)
+{
+    struct panel empty = empty_panel();
+    expect(is_0_from(&empty, 0), "the empty panel");
+    FREED(35, remove_link(&p, 100, 1, MUD), 34);
+    FREED(35, remove_link(&p, 203, 3, SSUD), 34);
+    FREED(35, remove_link(&p, 407, 7, FO), 34);
+    FREED(35, remove_blind(&p, 1), 30);
+    FREED(512, remove_link(&p, 100, 1, MUD), 511);
+    FREED(512, remove_link(&p, 1511, 1, MUD), 511);
+    FREED(512, remove_blind(&p, 1), 30);
+}
+
+/* ---- Blinds ---------------------------------------------------------- */
 
 static void terminals_and_parameters(void)
 {
@@ -230,6 +313,8 @@ int main(void)
                && panel.blinds[tag].sort == (tag < 4 ? FULL_RUN : tag < 6 ? STEP : TO_POSITION),
                "the panel to damage");
     links();
+    unused_places();
+    freed_places();
     terminals_and_parameters();
     runs_and_waits();
     cells_lent();
