@@ -25,7 +25,7 @@ pub fn act(blind: Blind, command: Command) -> Blind
     }
 }
 
-fn mud(blind: Blind, direction: Direction) -> Blind
+pub fn mud(blind: Blind, direction: Direction) -> Blind
     ensures { λ r. ⌜ r ≡ mud direction blind ⌝ }
 {
     blind.order(full_run(blind.params, direction))
