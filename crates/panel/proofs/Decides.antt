@@ -1,8 +1,8 @@
 -- The test of soundness decides the statement, clause by clause, for every model whose tags are those that there are.
 -- Assumes nothing.
 use Prim.Native.Nat.{ℕ, _^_, _<_, _≤_}
-use mathlib.Core.Path.{_≡_}
-use mathlib.Core.Bool.{true, false, and-true, and-false, _&&_}
+use mathlib.Core.Path.{_≡_, sym, ap, ap₂, _∙_}
+use mathlib.Core.Bool.{Bool, true, false, and-true, and-false, _&&_}
 use mathlib.Core.Option.{some}
 use native.Mathlib.Omega.{arith}
 use lib.ListN.{length, getD}
@@ -10,18 +10,20 @@ use Rattle.laws.specs.Decides.{Decides}
 use Rattle.laws.proofs.Choices.{both-left}
 use Rattle.laws.proofs.Deciding.{le, and, said}
 use Rattle.laws.proofs.Every.{every-at, every-there, distinct-there}
-use Rattle.tags.specs.Tags.{places}
+use Rattle.tags.specs.Tags.{TagSet, places, tagsOf}
 use Rattle.sound_blind.specs.Sound as ofBlind
 use Rattle.sound_blind.proofs.Decides.{sound-decides as blind-decides}
 use Rattle.link.specs.Link.{nothing}
+use Rattle.table.specs.declared.Table.{Table}
 use Rattle.table.specs.Sound as ofLinks
-use Rattle.table.specs.Links.{Held}
+use Rattle.table.specs.Links.{Held, heldOf}
 use Rattle.table.proofs.Stores.{many}
 use Rattle.table.proofs.Sound.{sound-decided}
 use Rattle.panel.specs.declared.Panel.{Panel}
 use Rattle.panel.specs.Panel.{Seat, Model, modelOf, presentIn}
+use Rattle.panel.specs.Fields.{panelOf}
 use Rattle.panel.specs.Sound.{Tagged, Sound, Fine, seatsIn, soundSeat, soundSeats, allNamed, isSound}
-use Rattle.panel.proofs.Seats.{panel-tagged}
+use Rattle.panel.proofs.Seats.{panel-tagged, present-tags}
 
 -- ---- the test, part by part
 
@@ -42,6 +44,18 @@ module _ (m : Model) where
   pub table-sound : isSound m ≡ true → ofLinks.isSound (m .table) ≡ true
   unfolding isSound
   table-sound e = both-left (ofLinks.isSound (m .table)) (allNamed (presentIn m) (m .table .links) && soundSeats m) e
+
+-- the seats judged first, and then the links: together they are the test
+pub parts-decide : (p : Panel) {seats r : Bool} → ((table : Table) → seats ≡ soundSeats (modelOf (panelOf (p .present) (p .terminals) (p .blinds) table)))
+    → r ≡ seats && (ofLinks.isSound (heldOf (p .table)) && allNamed (tagsOf (p .present)) (heldOf (p .table) .links)) → r ≡ isSound (modelOf p)
+unfolding isSound
+parts-decide p {seats} {r} e f =
+    f ∙ last seats (ofLinks.isSound (heldOf (p .table))) (allNamed (tagsOf (p .present)) (heldOf (p .table) .links))
+    ∙ ap₂ (λ (s : TagSet) (b : Bool). ofLinks.isSound (heldOf (p .table)) && (allNamed s (heldOf (p .table) .links) && b)) (sym (present-tags p)) (e (p .table))
+  where
+    last : (s l n : Bool) → s && (l && n) ≡ l && (n && s)
+    last true l n = ap (λ (b : Bool). l && b) (sym (and-true n))
+    last false l n = sym (ap (λ (b : Bool). l && b) (and-false n) ∙ and-false l)
 
 -- ---- the statement
 

@@ -1,6 +1,5 @@
 // Document 01, "Sound": a test that is total on any contents. The blinds first, tag by tag, with the terminals met so
-// far; then the links, by their words.
-use crate::Panel;
+// far; then the links, by their words. Each part of the test is handed what it looks at and no panel, which would be copied.
 use blind::Blind;
 use link::words::tag_in;
 use table::search::smaller;
@@ -15,43 +14,43 @@ ghost use mathlib.Core.Path.{_≡_};
 ghost use mathlib.Core.Bool.{not, _&&_};
 ghost use Rattle.tags.specs.Tags.{places, tagsOf};
 ghost use Rattle.link.specs.Link.{ofWord};
-ghost use Rattle.table.specs.Links.{linksIn};
+ghost use Rattle.table.specs.declared.Table.{Table};
+ghost use Rattle.table.specs.Links.{linksIn, heldIn};
+ghost use Rattle.table.specs.Sound as ofLinks;
 ghost use Rattle.panel.specs.Panel.{modelOf};
+ghost use Rattle.panel.specs.Fields.{panelOf};
 ghost use Rattle.terminals.specs.Strip.{takenOf};
-ghost use Rattle.panel.specs.Sound.{allNamed, soundSeat, soundSeats, isSound};
+ghost use Rattle.panel.specs.Sound.{allNamed, soundSeat, soundSeats};
 
-impl Panel {
-    pub fn is_sound(self) -> bool
-        ensures { λ r. ⌜ r ≡ isSound (modelOf self) ⌝ }
-    {
-        if !self.seats_sound() {
-            return false;
-        }
-        let table = self.table;
-        let count = table.count;
-        if !soundness::is_sound(&table.words, count) {
-            return false;
-        }
-        all_named(self.present, &table.words, count)
+// Whether the panel is sound whose seats have been judged and whose links are these.
+pub fn is_sound(seats: bool, present: Tags, words: &[u32], count: usize) -> bool
+    ensures { λ r. ⌜ r ≡ (seats && (ofLinks.isSound (heldIn count (now (words .entry))) && allNamed (tagsOf present) (linksIn count (now (words .entry))))) ⌝ }
+{
+    if !seats {
+        return false;
     }
+    if !soundness::is_sound(words, count) {
+        return false;
+    }
+    all_named(present, words, count)
+}
 
-    // A place whose tag is absent is passed over unread.
-    pub fn seats_sound(self) -> bool
-        ensures { λ r. ⌜ r ≡ soundSeats (modelOf self) ⌝ }
-    {
-        let mut met = Strip::empty();
-        for tag in 0..CELLS {
-            if self.present.has(tag as u64) {
-                let terminal = self.terminals[tag];
-                let blind = self.blinds[tag];
-                if !may_stand(met, terminal, blind) {
-                    return false;
-                }
-                met = met.with(terminal);
+// Whether the seats are sound, whatever the links. A place whose tag is absent is passed over unread.
+pub fn seats_sound(present: Tags, terminals: [u8; CELLS], blinds: [Blind; CELLS]) -> bool
+    ensures { λ r. ⌜ ((table : Table) → r ≡ soundSeats (modelOf (panelOf present terminals blinds table))) ⌝ }
+{
+    let mut met = Strip::empty();
+    for tag in 0..CELLS {
+        if present.has(tag as u64) {
+            let terminal = terminals[tag];
+            let blind = blinds[tag];
+            if !may_stand(met, terminal, blind) {
+                return false;
             }
+            met = met.with(terminal);
         }
-        true
     }
+    true
 }
 
 // Each link names a present blind. The words are joined: no tag is past the last one exactly if theirs is not. The tags

@@ -50,11 +50,7 @@ pub(crate) fn ruled(blind: Blind, before: Duty) -> Blind
 {
     let now = duty(blind);
     let unchanged = before.is(now);
-    if unchanged {
-        blind
-    } else {
-        obey(blind, now)
-    }
+    if unchanged { blind } else { obey(blind, now) }
 }
 
 // Not by way of `act`: asked in one place alone, `act` is compiled into a telegram's loop, which halves the time of a link.
