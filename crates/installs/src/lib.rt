@@ -8,6 +8,8 @@ use answers::TERMINAL_IN_USE;
 use blind::Blind;
 use panel::Panel;
 use panel::calls::Answered;
+use panel::soundness::is_sound;
+use panel::soundness::seats_sound;
 use params::Asked;
 use tags::CELLS;
 use tags::PLACES;
@@ -29,7 +31,9 @@ pub fn install(mut panel: Panel, tag: u64, terminal: u64, asked: Asked) -> Answe
     ensures { λ r. ⌜ Does (installRule tag terminal (rowOf asked)) panel noCells r noCells ⌝ }
 {
     let present = panel.present;
-    let answer = judge_new(panel.is_sound(), present, tag, terminal, asked);
+    let seated = seats_sound(panel.present, panel.terminals, panel.blinds);
+    let sound = is_sound(seated, panel.present, &panel.table.words, panel.table.count);
+    let answer = judge_new(sound, present, tag, terminal, asked);
     if answer != DONE {
         return Answered {
             answer,

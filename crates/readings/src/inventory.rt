@@ -2,6 +2,8 @@
 use answers::DONE;
 use answers::NOT_SOUND;
 use panel::Panel;
+use panel::soundness::is_sound;
+use panel::soundness::seats_sound;
 ghost use mathlib.Core.Path.{_≡_};
 ghost use Rattle.answers.specs.Rules.{carried};
 ghost use Rattle.panel.specs.Panel.{modelOf};
@@ -19,7 +21,8 @@ pub struct Counted {
 pub fn inventory(panel: Panel) -> Counted
     ensures { λ r. ⌜ countedOf r (modelOf panel) ≡ carried inventoryRule (modelOf panel) noCells ⌝ }
 {
-    if !panel.is_sound() {
+    let seated = seats_sound(panel.present, panel.terminals, panel.blinds);
+    if !is_sound(seated, panel.present, &panel.table.words, panel.table.count) {
         return Counted {
             answer: NOT_SOUND,
             blinds: 0,

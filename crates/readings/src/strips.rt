@@ -6,6 +6,8 @@ use answers::WRONG_CELLS;
 use outputs::motor;
 use panel::Panel;
 use panel::calls::Answered;
+use panel::soundness::is_sound;
+use panel::soundness::seats_sound;
 use tags::CELLS;
 use terminals::STRIP;
 ghost use mathlib.Core.Path.{_≡_};
@@ -27,7 +29,8 @@ pub fn strip(panel: Panel, cells: &mut [u8]) -> Answered
             panel,
         };
     }
-    if !panel.is_sound() {
+    let seated = seats_sound(panel.present, panel.terminals, panel.blinds);
+    if !is_sound(seated, panel.present, &panel.table.words, panel.table.count) {
         return Answered {
             answer: NOT_SOUND,
             count: 0,

@@ -8,6 +8,7 @@ use links::Edited;
 use panel::Panel;
 use panel::calls::Answered;
 use panel::soundness::all_named;
+use panel::soundness::seats_sound;
 use seats::judge_named;
 use table::Table;
 use table::soundness::is_sound;
@@ -25,7 +26,7 @@ ghost use Rattle.removals.specs.Removals.{removeRule};
 pub fn remove_blind(mut panel: Panel, tag: u64) -> Answered
     ensures { λ r. ⌜ Does (removeRule tag) panel noCells r noCells ⌝ }
 {
-    if !panel.seats_sound() {
+    if !seats_sound(panel.present, panel.terminals, panel.blinds) {
         return Answered {
             answer: NOT_SOUND,
             count: 0,

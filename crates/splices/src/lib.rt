@@ -9,6 +9,8 @@ use answers::PAST_THE_STRIP;
 use answers::TERMINAL_IN_USE;
 use panel::Panel;
 use panel::calls::Answered;
+use panel::soundness::is_sound;
+use panel::soundness::seats_sound;
 use tags::CELLS;
 use tags::Tags;
 use terminals::TERMINALS;
@@ -60,7 +62,8 @@ fn judge(panel: Panel, t: u64, n: u64, up: u64, down: u64) -> u8
     requires { ⌜ down ≤ n ⌝ }
     ensures { λ r. ⌜ r ≡ refusal (spliceRule t n up down .checks (modelOf panel) noCells) ⌝ }
 {
-    if !panel.is_sound() {
+    let seated = seats_sound(panel.present, panel.terminals, panel.blinds);
+    if !is_sound(seated, panel.present, &panel.table.words, panel.table.count) {
         return NOT_SOUND;
     }
     if is_off_strip(t, n) {

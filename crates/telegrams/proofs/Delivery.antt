@@ -5,16 +5,20 @@ use native.Mathlib.Numerals.{add-one}
 use native.Mathlib.Omega.{arith}
 use mathlib.Core.Path.{_≡_, refl, sym, ap, ap₂, _∙_}
 use mathlib.Core.Bool.{Bool, true, false, cond}
-use mathlib.Core.List.{List, _∷_}
+use mathlib.Core.List.{List, [], _∷_}
 use mathlib.Core.Option.{Option, none, some, Option·map}
 use lib.ListN.{length, getD, set, take, drop, length-set}
 use lib.Seq.{drop-cons}
 use lib.Dec.{eqb}
 use borrow.Author.Tests.{eqb-true}
+use Rattle.laws.specs.Fills.{tabulate}
+use Rattle.laws.proofs.Fills.{tabulate-length}
 use Rattle.tags.specs.Tags.{TagSet, places, tagsOf}
 use Rattle.blind.specs.declared.Blind.{Blind}
+use Rattle.outputs.specs.Reports.{noReport, report}
 use Rattle.rules.specs.Rules.{heeded}
 use Rattle.values.specs.Telegrams.{inputOf}
+use Rattle.conduct.proofs.SoundCourses.{heeded-sound, input-of-class}
 use Rattle.link.specs.declared.Link.{Link}
 use Rattle.table.specs.Links.{heldOf}
 use Rattle.table.specs.Sound as ofLinks
@@ -23,11 +27,15 @@ use Rattle.link.proofs.Ranges.{range-reads}
 use Rattle.table.proofs.Sound.{sound-decided}
 use Rattle.table.proofs.Stores.{few, many, held-at}
 use Rattle.panel.specs.declared.Panel.{Panel}
-use Rattle.panel.specs.Panel.{Seat, Model, nobody, seatsOf, modelOf, reseated, eachSeat, onBlind}
+use Rattle.panel.specs.Panel.{Seat, Model, nobody, placeOf, seatsOf, modelOf, reseated, eachSeat, onBlind}
 use Rattle.panel.specs.Fields.{withBlinds}
 use Rattle.panel.specs.Sound.{Sound}
+use Rattle.panel.specs.Reports.{reports}
+use Rattle.panel.proofs.Cells.{written, report-most}
 use Rattle.panel.proofs.Seats.{same-model, seat-present, present-tags, blind-written}
 use Rattle.telegrams.specs.Telegrams.{served, delivered}
+use Rattle.telegrams.proofs.Soundness.{handed-sound}
+use Rattle.telegrams.proofs.Told.{none-told, one-told, all-told}
 
 -- the first of the elements from a place on, and those after it
 first-next : {A : Type 0} (ls : List A) (d : A) (i k : ℕ) → i < length ls → take (suc k) (drop i ls) ≡ getD ls i d ∷ take k (drop (i + 1) ls)
@@ -71,23 +79,39 @@ module _ (value : ℕ) (p : Panel) (start count : ℕ) where
   abbrev pub target : Model
   target = delivered value (take count (drop start (heldOf (p .table) .links))) (modelOf p)
 
-  -- the blinds when so many links have spoken
-  pub record Delivering (blinds : List Blind) (turn : ℕ) : Type 0 where
-    pub room : length blinds ≡ places
-    pub rest : delivered value (left turn) (modelOf (withBlinds blinds p)) ≡ target
+  -- the panel and the cells when so many links have spoken
+  pub record Delivering (next : Panel) (cells : List ℕ) (turn : ℕ) : Type 0 where
+    pub only : next ≡ withBlinds (next .blinds) p
+    pub room : length (next .blinds) ≡ places
+    pub rest : delivered value (left turn) (modelOf next) ≡ target
+    pub sound : Sound (modelOf next)
+    pub told : cells ≡ tabulate places (written p next)
 
-  pub deliver-start : length (p .blinds) ≡ places → Delivering (p .blinds) 0
-  deliver-start room =
+  pub deliver-start : {cells : List ℕ} → length (p .blinds) ≡ places → Sound (modelOf p) → cells ≡ tabulate places (λ tag. noReport) → Delivering p cells 0
+  deliver-start room sound silent =
       let all : count - 0 ≡ count = omega arith in
       let here : start + 0 ≡ start = omega arith in
-      record { room = room; rest = ap₂ (λ (k i : ℕ). delivered value (take k (drop i (heldOf (p .table) .links))) (modelOf p)) all here }
+      record {
+        only = refl;
+        room = room;
+        rest = ap₂ (λ (k i : ℕ). delivered value (take k (drop i (heldOf (p .table) .links))) (modelOf p)) all here;
+        sound = sound;
+        told = silent ∙ none-told p;
+      }
 
-  pub deliver-end : (blinds : List Blind) (turn : ℕ) → count ≤ turn → Delivering blinds turn → modelOf (withBlinds blinds p) ≡ target
-  unfolding delivered
-  deliver-end blinds turn h so-far =
-      let none-left : count - turn ≡ 0 = omega arith in
-      sym (ap (λ (k : ℕ). delivered value (take k (drop (start + turn) (heldOf (p .table) .links))) (modelOf (withBlinds blinds p))) none-left)
-      ∙ so-far .rest
+  module _ {next : Panel} {cells : List ℕ} {turn : ℕ} (so-far : Delivering next cells turn) where
+    -- the cells are as many as the tags
+    pub deliver-lent : length cells ≡ places
+    deliver-lent = ap length (so-far .told) ∙ tabulate-length places (written p next)
+
+    -- where no link is left, the panel is what the span leads to, and the cells tell of it
+    pub deliver-end : count ≤ turn → (modelOf next ≡ target) × (cells ≡ reports (modelOf p) (modelOf next))
+    unfolding delivered
+    deliver-end h =
+        let none-left : count - turn ≡ 0 = omega arith in (
+          sym (ap (λ (k : ℕ). delivered value (take k (drop (start + turn) (heldOf (p .table) .links))) (modelOf next)) none-left) ∙ so-far .rest,
+          so-far .told ∙ all-told p next (present-tags next ∙ ap (λ (q : Panel). tagsOf (q .present)) (so-far .only) ∙ sym (present-tags p)),
+        )
 
   module _ (sound : Sound (modelOf p)) (room : length (p .table .words) ≡ 512) (fits : start + count ≤ p .table .count) where
     tested : ofLinks.isSound (heldOf (p .table)) ≡ true
@@ -123,15 +147,33 @@ module _ (value : ℕ) (p : Panel) (start count : ℕ) where
             ∙ first-next ls nothing i (count - (turn + 1)) (omega (arith, e, full))
             ∙ ap₂ (λ (l : Link) (n : ℕ). l ∷ take (count - (turn + 1)) (drop n ls)) here after
 
-        -- one turn
-        pub deliver-turn : (blinds : List Blind) (b : Blind) → b ≡ heeded (inputOf (link .kind) value) (getD blinds (link .tag) nobody)
-            → Delivering blinds turn → Delivering (set blinds (link .tag) b) (turn + 1)
-        unfolding delivered
-        deliver-turn blinds b heard so-far =
-            let next = withBlinds blinds p in
-            record {
-              room = length-set blinds (link .tag) b ∙ so-far .room;
-              rest =
-                  ap (delivered value (left (turn + 1))) (link-served next link value b tag-there (omega (arith, tag-low, so-far .room)) heard)
-                  ∙ sym (ap (λ (ls : List Link). delivered value ls (modelOf next)) left-next) ∙ so-far .rest;
-            }
+        module _ {next : Panel} {cells : List ℕ} (so-far : Delivering next cells turn) (byte : value ≤ 255) (b : Blind)
+            (heard : b ≡ heeded (inputOf (link .kind) value) (getD (next .blinds) (link .tag) nobody)) where
+          present : tagsOf (next .present) (link .tag) ≡ true
+          present = ap (λ (q : Panel). tagsOf (q .present) (link .tag)) (so-far .only) ∙ tag-there
+
+          -- what the cell is to hold fits
+          pub deliver-fits : {n : ℕ} → n ≡ report (getD (p .blinds) (link .tag) nobody) b → n ≤ noReport
+          deliver-fits e =
+              rw e
+              (report-most (getD (p .blinds) (link .tag) nobody) b
+              (rw heard
+              (heeded-sound (inputOf (link .kind) value) (getD (next .blinds) (link .tag) nobody) (input-of-class (link .kind) value byte)
+              (so-far .sound .blinds (link .tag) (placeOf next (link .tag)) (seat-present next (link .tag) present)))))
+
+          -- one turn
+          pub deliver-turn : {n : ℕ} → n ≡ report (getD (p .blinds) (link .tag) nobody) b
+              → Delivering (withBlinds (set (next .blinds) (link .tag) b) next) (set cells (link .tag) n) (turn + 1)
+          unfolding delivered
+          deliver-turn {n} e =
+              let fits : link .tag < length (next .blinds) = omega (arith, tag-low, so-far .room) in
+              let does = link-served next link value b present fits heard in
+              record {
+                only = ap (withBlinds (set (next .blinds) (link .tag) b)) (so-far .only);
+                room = length-set (next .blinds) (link .tag) b ∙ so-far .room;
+                rest =
+                    ap (delivered value (left (turn + 1))) does
+                    ∙ sym (ap (λ (ls : List Link). delivered value ls (modelOf next)) left-next) ∙ so-far .rest;
+                sound = handed-sound value (link ∷ []) (modelOf next) byte (so-far .sound) does;
+                told = ap (λ (l : List ℕ). set l (link .tag) n) (so-far .told) ∙ one-told p next (link .tag) b tag-there fits e;
+              }

@@ -1,6 +1,7 @@
 pub mod Ranges
 pub mod Found
 pub mod Reached
+pub mod Told
 pub mod Delivery
 pub mod Soundness
 pub mod Locality

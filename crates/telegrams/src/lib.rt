@@ -11,35 +11,38 @@ use link::Link;
 use link::is_address;
 use link::words::ADDRESS_STEP;
 use link::words::class_in;
-use outputs::cell;
+use outputs::NO_REPORT;
+use outputs::report;
 use panel::Panel;
 use panel::calls::Answered;
+use panel::soundness::is_sound;
+use panel::soundness::seats_sound;
 use rules::heed;
-use table::Table;
 use table::search::below;
 use tags::CELLS;
 use values::Input;
 ghost use Prim.Native.Nat.{_<_, _≤_, _+_};
 ghost use mathlib.Core.Path.{_≡_};
-ghost use mathlib.Core.Bool.{true};
+ghost use mathlib.Core.Bool.{true, not};
 ghost use mathlib.Core.List.{_∷_};
-ghost use lib.ListN.{take, drop};
+ghost use lib.ListN.{length, getD};
+ghost use Rattle.laws.specs.Fills.{tabulate};
 ghost use Rattle.answers.specs.Answers.{refusal};
 ghost use Rattle.kinds.specs.Kinds.{classOf};
 ghost use Rattle.link.specs.Link.{ofWord};
-ghost use Rattle.table.specs.Links.{heldOf};
+ghost use Rattle.table.specs.Links.{linksIn, heldIn};
 ghost use Rattle.table.specs.Sound as ofLinks;
 ghost use Rattle.rules.specs.Rules.{heeded};
 ghost use Rattle.values.specs.Telegrams.{inputOf};
-ghost use Rattle.panel.specs.Panel.{modelOf};
-ghost use Rattle.panel.specs.Sound.{Sound};
+ghost use Rattle.tags.specs.Tags.{places};
+ghost use Rattle.outputs.specs.Reports.{noReport};
 ghost use Rattle.panel.specs.Calls.{row, outside, Does};
-ghost use Rattle.telegrams.specs.Telegrams.{isOutside, linkChecks, Together, delivered, telegramRule};
+ghost use Rattle.telegrams.specs.Telegrams.{isOutside, linkChecks, Together, telegramRule};
 
 const LAST_VALUE: u64 = 255;
 
-// The links speak to a copy, so that each cell can tell the blind before the whole call from the blind after it.
-pub fn telegram(panel: Panel, address: u64, value: u64, cells: &mut [u16]) -> Answered
+// The links speak to the panel itself; a copy of its blinds tells each cell what stood there before the whole call.
+pub fn telegram(mut panel: Panel, address: u64, value: u64, cells: &mut [u16]) -> Answered
     ensures { λ r. ⌜ Does (telegramRule address value) panel (row (now (cells .entry))) r (row (now (cells .exit))) ⌝ }
 {
     if cells.len() != CELLS {
@@ -49,14 +52,9 @@ pub fn telegram(panel: Panel, address: u64, value: u64, cells: &mut [u16]) -> An
             panel,
         };
     }
-    if !panel.is_sound() {
-        return Answered {
-            answer: NOT_SOUND,
-            count: 0,
-            panel,
-        };
-    }
-    let reach = judge(panel.table, address, value);
+    let seated = seats_sound(panel.present, panel.terminals, panel.blinds);
+    let sound = is_sound(seated, panel.present, &panel.table.words, panel.table.count);
+    let reach = judge(sound, &panel.table.words, panel.table.count, address, value);
     let refused = reach.answer;
     if refused != DONE {
         return Answered {
@@ -65,19 +63,33 @@ pub fn telegram(panel: Panel, address: u64, value: u64, cells: &mut [u16]) -> An
             panel,
         };
     }
-    let present = panel.present;
-    let heard = reach.count;
-    let next = deliver(panel, reach, value as u8);
-    for tag in 0..CELLS {
-        let there = present.has(tag as u64);
-        let old = panel.blinds[tag];
-        let new = next.blinds[tag];
-        cells[tag] = cell(there, old, new) as u16;
+    clear(cells);
+    let before = panel.blinds;
+    let count = reach.count;
+    let byte = value as u8;
+    for turn in 0..count {
+        let link = link_at(&panel.table.words, reach.place(turn));
+        let tag = link.tag as usize;
+        let old = before[tag];
+        let now = panel.blinds[tag];
+        let new = hear(now, link, byte);
+        panel.blinds[tag] = new;
+        cells[tag] = report(old, new) as u16;
     }
     Answered {
         answer: DONE,
-        count: heard as u64,
-        panel: next,
+        count: count as u64,
+        panel,
+    }
+}
+
+// No blind has anything to report before the first link is served.
+fn clear(cells: &mut [u16])
+    requires { ⌜ length (now cells) ≡ places ⌝ }
+    ensures { λ r. ⌜ now (cells .exit) ≡ tabulate places (λ tag. noReport) ⌝ }
+{
+    for tag in 0..CELLS {
+        cells[tag] = NO_REPORT;
     }
 }
 
@@ -89,6 +101,17 @@ struct Reach {
 }
 
 impl Reach {
+    // Refused: nobody is reached.
+    fn refused(answer: u8) -> Reach
+        ensures { λ r. ⌜ r .answer ≡ answer ⌝ }
+    {
+        Reach {
+            answer,
+            start: 0,
+            count: 0,
+        }
+    }
+
     // Where the link stands whose turn it is: they are served in table order.
     fn place(self, turn: usize) -> usize
         requires { ⌜ turn < self .count ⌝ }
@@ -101,35 +124,26 @@ impl Reach {
 
 // The links of the address are looked up once, for their number, their class and their place: they stand together, and
 // end where those of the next address start. All of them have one class, so the first tells it.
-fn judge(table: Table, address: u64, value: u64) -> Reach
-    requires { ⌜ ofLinks.isSound (heldOf table) ≡ true ⌝ }
-    ensures { λ r. ⌜ (r .answer ≡ refusal (outside (isOutside address value) ∷ linkChecks address value (heldOf table .links))) × (r .answer ≡ 0 → Together address (heldOf table .links) (r .start) (r .count)) ⌝ }
+fn judge(sound: bool, words: &[u32], held: usize, address: u64, value: u64) -> Reach
+    requires { ⌜ (sound ≡ true → ofLinks.isSound (heldIn held (now words)) ≡ true) ⌝ }
+    requires { ⌜ length (now words) ≡ ofLinks.most ⌝ }
+    ensures { λ r. ⌜ (r .answer ≡ refusal ((not sound, 12) ∷ outside (isOutside address value) ∷ linkChecks address value (linksIn held (now (words .entry))))) × (r .answer ≡ 0 → Together address (linksIn held (now (words .entry))) (r .start) (r .count)) ⌝ }
 {
-    if is_outside(address, value) {
-        return Reach {
-            answer: OUT_OF_RANGE,
-            start: 0,
-            count: 0,
-        };
+    if !sound {
+        return Reach::refused(NOT_SOUND);
     }
-    let held = table.count;
-    let start = below(&table.words, held, address * ADDRESS_STEP);
-    let end = below(&table.words, held, (address + 1) * ADDRESS_STEP);
+    if is_outside(address, value) {
+        return Reach::refused(OUT_OF_RANGE);
+    }
+    let start = below(words, held, address * ADDRESS_STEP);
+    let end = below(words, held, (address + 1) * ADDRESS_STEP);
     let count = end - start;
     if count == 0 {
-        return Reach {
-            answer: NO_LINK,
-            start,
-            count,
-        };
+        return Reach::refused(NO_LINK);
     }
-    let first = table.words[start];
+    let first = words[start];
     if class(first) < value {
-        return Reach {
-            answer: NOT_OF_THE_CLASS,
-            start,
-            count,
-        };
+        return Reach::refused(NOT_OF_THE_CLASS);
     }
     Reach {
         answer: DONE,
@@ -154,23 +168,11 @@ fn class(word: u32) -> u64
     class_in(word) as u64
 }
 
-// Each link speaks to the blind of its tag, as the link before left it.
-fn deliver(panel: Panel, reach: Reach, value: u8) -> Panel
-    requires { ⌜ Sound (modelOf panel) ⌝ }
-    requires { ⌜ reach .start + reach .count ≤ panel .table .count ⌝ }
-    ensures { λ r. ⌜ modelOf r ≡ delivered value (take (reach .count) (drop (reach .start) (modelOf panel .table .links))) (modelOf panel) ⌝ }
+fn link_at(words: &[u32], place: usize) -> Link
+    requires { ⌜ place < length (now words) ⌝ }
+    ensures { λ r. ⌜ r ≡ ofWord (getD (now (words .entry)) place 0) ⌝ }
 {
-    let table = panel.table;
-    let count = reach.count;
-    let mut blinds = panel.blinds;
-    for turn in 0..count {
-        let word = table.words[reach.place(turn)];
-        let link = Link::of(word);
-        let tag = link.tag as usize;
-        let blind = blinds[tag];
-        blinds[tag] = hear(blind, link, value);
-    }
-    Panel { blinds, ..panel }
+    Link::of(words[place])
 }
 
 fn hear(blind: Blind, link: Link, value: u8) -> Blind

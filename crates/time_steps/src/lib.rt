@@ -8,6 +8,8 @@ use milliseconds::milliseconds;
 use outputs::cell;
 use panel::Panel;
 use panel::calls::Answered;
+use panel::soundness::is_sound;
+use panel::soundness::seats_sound;
 use tags::CELLS;
 ghost use mathlib.Core.Path.{_≡_};
 ghost use mathlib.Core.Bool.{cond};
@@ -28,7 +30,8 @@ pub fn time_step(mut panel: Panel, dt: u64, cells: &mut [u16]) -> Answered
             panel,
         };
     }
-    if !panel.is_sound() {
+    let seated = seats_sound(panel.present, panel.terminals, panel.blinds);
+    if !is_sound(seated, panel.present, &panel.table.words, panel.table.count) {
         return Answered {
             answer: NOT_SOUND,
             count: 0,

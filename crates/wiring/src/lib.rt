@@ -11,6 +11,7 @@ use links::remove;
 use panel::Panel;
 use panel::calls::Answered;
 use panel::soundness::all_named;
+use panel::soundness::seats_sound;
 ghost use mathlib.Core.Path.{_≡_};
 ghost use mathlib.Core.Bool.{not};
 ghost use mathlib.Core.List.{[], _∷_};
@@ -23,7 +24,7 @@ ghost use Rattle.wiring.specs.Wiring.{addRule, removeLinkRule};
 pub fn add_link(mut panel: Panel, address: u64, tag: u64, kind: u64) -> Answered
     ensures { λ r. ⌜ Does (addRule (linkOf address tag kind)) panel noCells r noCells ⌝ }
 {
-    if !panel.seats_sound() {
+    if !seats_sound(panel.present, panel.terminals, panel.blinds) {
         return Answered {
             answer: NOT_SOUND,
             count: 0,
@@ -33,7 +34,8 @@ pub fn add_link(mut panel: Panel, address: u64, tag: u64, kind: u64) -> Answered
     let present = panel.present;
     let table = panel.table;
     let grown = add(table, Link::made(address, tag, kind));
-    let sound = (grown.answer != NOT_SOUND) & all_named(present, &table.words, table.count);
+    let sound = (grown.answer != NOT_SOUND)
+        & all_named(present, &panel.table.words, panel.table.count);
     if !sound {
         return Answered {
             answer: NOT_SOUND,
@@ -66,7 +68,7 @@ pub fn add_link(mut panel: Panel, address: u64, tag: u64, kind: u64) -> Answered
 pub fn remove_link(mut panel: Panel, address: u64, tag: u64, kind: u64) -> Answered
     ensures { λ r. ⌜ Does (removeLinkRule (linkOf address tag kind)) panel noCells r noCells ⌝ }
 {
-    if !panel.seats_sound() {
+    if !seats_sound(panel.present, panel.terminals, panel.blinds) {
         return Answered {
             answer: NOT_SOUND,
             count: 0,
@@ -75,7 +77,8 @@ pub fn remove_link(mut panel: Panel, address: u64, tag: u64, kind: u64) -> Answe
     }
     let table = panel.table;
     let shrunk = remove(table, Link::made(address, tag, kind));
-    let sound = (shrunk.answer != NOT_SOUND) & all_named(panel.present, &table.words, table.count);
+    let sound = (shrunk.answer != NOT_SOUND)
+        & all_named(panel.present, &panel.table.words, panel.table.count);
     if !sound {
         return Answered {
             answer: NOT_SOUND,

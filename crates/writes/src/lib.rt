@@ -5,6 +5,8 @@ use answers::DONE;
 use answers::NOT_SOUND;
 use panel::Panel;
 use panel::calls::Answered;
+use panel::soundness::is_sound;
+use panel::soundness::seats_sound;
 use params::Asked;
 use seats::judge_named;
 use tags::PLACES;
@@ -16,7 +18,8 @@ ghost use Rattle.writes.specs.Writes.{writeRule};
 pub fn write_params(mut panel: Panel, tag: u64, asked: Asked) -> Answered
     ensures { λ r. ⌜ Does (writeRule tag (rowOf asked)) panel noCells r noCells ⌝ }
 {
-    if !panel.is_sound() {
+    let seated = seats_sound(panel.present, panel.terminals, panel.blinds);
+    if !is_sound(seated, panel.present, &panel.table.words, panel.table.count) {
         return Answered {
             answer: NOT_SOUND,
             count: 0,

@@ -16,7 +16,9 @@ use Rattle.params.specs.declared.Params.{Params}
 use Rattle.blind.specs.Orders.{freshOf}
 use Rattle.panel.specs.declared.Panel.{Panel}
 use Rattle.panel.specs.Panel.{modelOf, reseated}
+use Rattle.panel.specs.Sound.{isSound}
 use Rattle.panel.specs.Calls.{noCells}
+use Rattle.panel.proofs.Decides.{parts-decide}
 use Rattle.panel.proofs.Rules.{refuses, refuses-with, does}
 use Rattle.panel.proofs.Seats.{seat-put}
 use Rattle.seats.specs.Seats.{standsWithin, inUse}
@@ -30,10 +32,10 @@ use Rattle.installs.proofs.install.Statement.{statement}
 use Rattle.installs.proofs.install.Tie as tie
 
 abbrev Inv-loop : tie.InvT-loop
-Inv-loop tag terminal asked panel present answer other₀ other = (other ≤ 64) × Rest (standsWithin terminal (terminal + 1)) panel other
+Inv-loop tag terminal asked panel present seated sound answer other₀ other = (other ≤ 64) × Rest (standsWithin terminal (terminal + 1)) panel other
 
 abbrev μ-loop : tie.MeasureT-loop
-μ-loop tag terminal asked panel present answer other₀ other = 64 - other
+μ-loop tag terminal asked panel present seated sound answer other₀ other = 64 - other
 
 terminals-long : (c : tie.Start Inv-loop μ-loop) → length (c .args .t1 .terminals) ≡ 64
 terminals-long c = search needs
@@ -43,22 +45,33 @@ blinds-long c = search (long, needs)
 
 -- ---- what is passed
 
+-- the test of the seats, and the start, seen after that of the whole panel
+abbrev seated : tie.After-is-sound Inv-loop μ-loop → tie.After-seats-sound Inv-loop μ-loop
+seated c = c .before .before .before .before .before
+
+abbrev from : tie.After-is-sound Inv-loop μ-loop → tie.Start Inv-loop μ-loop
+from c = seated c .before .before .before .before .before
+
+-- whether the panel is sound
+whole : (c : tie.After-is-sound Inv-loop μ-loop) → c .is-sound .result ≡ isSound (modelOf (from c .args .t1))
+whole c = parts-decide (from c .args .t1) (seated c .seats-sound .ensures) (c .is-sound .ensures)
+
 low : (c : tie.Else1 Inv-loop μ-loop)
-    → Inside (c .before .before .before .before .args .tag) (c .before .before .before .before .args .terminal) (rowOf (c .before .before .before .before .args .asked))
-low c = new-inside (c .before .before .before .before .args .t1) _ _ _ (c .before .before .is-sound .ensures) (c .before .judge-new .ensures) (c .if1 .left)
+    → (let start = from (c .before .before) in Inside (start .args .tag) (start .args .terminal) (rowOf (start .args .asked)))
+low c = new-inside (from (c .before .before) .args .t1) _ _ _ (whole (c .before .before)) (c .before .judge-new .ensures) (c .if1 .left)
 
 -- only the terminal is left to be asked
 past : (c : tie.Else1 Inv-loop μ-loop)
-    → (let start = c .before .before .before .before in
+    → (let start = from (c .before .before) in
     refusal (installRule (start .args .tag) (start .args .terminal) (rowOf (start .args .asked)) .checks (modelOf (start .args .t1)) noCells)
     ≡ refusal ((inUse (start .args .terminal) (start .args .terminal + 1) (modelOf (start .args .t1)), 10) ∷ []))
-past c = new-judged (c .before .before .before .before .args .t1) _ _ _ (c .before .before .is-sound .ensures) (c .before .judge-new .ensures) .1 (c .if1 .left)
+past c = new-judged (from (c .before .before) .args .t1) _ _ _ (whole (c .before .before)) (c .before .judge-new .ensures) .1 (c .if1 .left)
 
 -- ---- the returns
 
 returns : tie.Need-returns Inv-loop μ-loop
 returns c =
-    refuses-with _ _ _ _ (c .if1 .taken) (new-judged (c .before .before .before .before .args .t1) _ _ _ (c .before .before .is-sound .ensures) (c .before .judge-new .ensures) .0 (c .if1 .taken))
+    refuses-with _ _ _ _ (c .if1 .taken) (new-judged (from (c .before .before) .args .t1) _ _ _ (whole (c .before .before)) (c .before .judge-new .ensures) .0 (c .if1 .taken))
 
 returns-2 : tie.Need-returns-2 Inv-loop μ-loop
 unfolding inUse
@@ -77,7 +90,7 @@ unfolding installRule inUse
 returns-3 c =
     let at = c .before .before .before .before in
     let one = at .before in
-    let start = one .before .before .before .before in
+    let start = from (one .before .before) in
     let p : Panel = start .args .t1 in
     let params : c .before .before .params .result ≡ _ = accepted-set _ _ (low one .fair) (c .before .before .params .ensures) in
     let tag-low : start .args .tag < 64 = low one .tag-low in
@@ -93,7 +106,7 @@ install-spec =
     (tie.spec
     Inv-loop
     μ-loop
-    (λ c κs. search needs) (λ c κs. search needs)
+    (λ c κs. search needs) (λ c κs. search needs) (λ c κs. search needs)
     returns
     (λ c. (omega arith, rest-all _ _))
     (λ c. search needs)
@@ -106,12 +119,12 @@ install-spec =
     (λ c. omega (arith, low (c .before .before .before .before) .tag-low))
     (λ c.
     let one = c .before .before .before .before in
-    let small : one .before .before .before .before .args .tag < 64 = low one .tag-low in
+    let small : from (one .before .before) .args .tag < 64 = low one .tag-low in
     search needs)
     (λ c. omega (arith, low (c .before .before .before .before) .terminal-low))
     (λ c.
     let one = c .before .before .before .before in
-    let small : one .before .before .before .before .args .tag < 64 = low one .tag-low in
+    let small : from (one .before .before) .args .tag < 64 = low one .tag-low in
     search needs)
     (λ c κs. search needs)
     returns-3)

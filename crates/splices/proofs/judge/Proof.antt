@@ -10,6 +10,7 @@ use Rattle.laws.proofs.Fills.{long}
 use Rattle.answers.specs.Answers.{refusal}
 use Rattle.panel.specs.Panel.{modelOf}
 use Rattle.panel.specs.Sound.{isSound}
+use Rattle.panel.proofs.Decides.{parts-decide}
 use Rattle.panel.proofs.Checks.{not-sound, outside-range, own-checks}
 use Rattle.seats.specs.Seats.{standsWithin, inUse, busyAbove, busyFrom, passesEnd, wouldPass}
 use Rattle.seats.proofs.Walk.{Met, rest-all, met-more, met-end}
@@ -20,25 +21,36 @@ use Rattle.splices.proofs.judge.Statement.{statement}
 use Rattle.splices.proofs.judge.Tie as tie
 
 abbrev Inv-loop : tie.InvT-loop
-Inv-loop t n up down panel present from used₀ busy₀ past₀ tag₀ used busy past tag =
+Inv-loop t n up down panel seated present from used₀ busy₀ past₀ tag₀ used busy past tag =
     (tag ≤ 64) × Met (standsWithin t (t + down)) panel used tag × Met (busyAbove (t + down)) panel busy tag × Met (passesEnd (t + down) up) panel past tag
 
 abbrev μ-loop : tie.MeasureT-loop
-μ-loop t n up down panel present from used₀ busy₀ past₀ tag₀ used busy past tag = 64 - tag
+μ-loop t n up down panel seated present from used₀ busy₀ past₀ tag₀ used busy past tag = 64 - tag
 
 -- ---- what is passed
 
-sound : (c : tie.Else1 Inv-loop μ-loop) → isSound (modelOf (c .before .before .args .t1)) ≡ true
-sound c = sym (c .before .is-sound .ensures) ∙ not-false _ (c .if1 .left)
+-- the test of the seats, and the start, seen after that of the whole panel
+abbrev seated : tie.After-is-sound Inv-loop μ-loop → tie.After-seats-sound Inv-loop μ-loop
+seated c = c .before .before .before .before .before
 
-on : (c : tie.Else2 Inv-loop μ-loop) → offStrip (c .before .before .before .before .args .t) (c .before .before .before .before .args .n) ≡ false
+abbrev from : tie.After-is-sound Inv-loop μ-loop → tie.Start Inv-loop μ-loop
+from c = seated c .before .before .before .before
+
+-- whether the panel is sound
+whole : (c : tie.After-is-sound Inv-loop μ-loop) → c .is-sound .result ≡ isSound (modelOf (from c .args .t1))
+whole c = parts-decide (from c .args .t1) (seated c .seats-sound .ensures) (c .is-sound .ensures)
+
+sound : (c : tie.Else1 Inv-loop μ-loop) → isSound (modelOf (from (c .before) .args .t1)) ≡ true
+sound c = sym (whole (c .before)) ∙ not-false _ (c .if1 .left)
+
+on : (c : tie.Else2 Inv-loop μ-loop) → offStrip (from (c .before .before .before) .args .t) (from (c .before .before .before) .args .n) ≡ false
 on c = sym (c .before .is-off-strip .ensures) ∙ c .if2 .left
 
 -- ---- the returns
 
 returns : tie.Need-returns Inv-loop μ-loop
 unfolding spliceRule
-returns c = sym (not-sound _ _ _ (sym (c .before .is-sound .ensures) ∙ not-true _ (c .if1 .taken)))
+returns c = sym (not-sound _ _ _ (sym (whole (c .before)) ∙ not-true _ (c .if1 .taken)))
 
 returns-2 : tie.Need-returns-2 Inv-loop μ-loop
 unfolding spliceRule
@@ -76,11 +88,11 @@ judge-spec =
     (tie.spec
     Inv-loop
     μ-loop
-    (λ c κs. search needs)
+    (λ c κs. search needs) (λ c κs. search needs)
     returns
     (λ c κs. search needs)
     returns-2
-    (λ c. omega (arith, on-strip _ _ (on (c .before)) .end, c .before .before .before .before .before .pre))
+    (λ c. omega (arith, on-strip _ _ (on (c .before)) .end, from (c .before .before .before .before) .pre))
     (λ c. (omega arith, rest-all _ _, rest-all _ _, rest-all _ _))
     (λ c. search needs) (λ c. omega arith) (λ c. search (long, needs)) (λ c κs. search needs) (λ c κs. search needs) (λ c κs. search needs) (λ c. omega arith) (λ c. omega arith)
     loop-again

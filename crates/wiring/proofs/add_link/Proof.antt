@@ -9,7 +9,7 @@ use Rattle.answers.specs.Answers.{refusal}
 use Rattle.link.specs.declared.Link.{Link}
 use Rattle.link.specs.Link.{inRange}
 use Rattle.panel.specs.Panel.{modelOf}
-use Rattle.panel.specs.Sound.{isSound}
+use Rattle.panel.specs.Sound.{soundSeats, isSound}
 use Rattle.panel.specs.Calls.{noCells}
 use Rattle.panel.proofs.Decides.{seats-fail}
 use Rattle.panel.proofs.Checks.{not-sound}
@@ -26,7 +26,14 @@ use Rattle.wiring.proofs.add_link.Tie as tie
 abbrev asked : tie.Start → Link
 asked start = linkOf (start .args .address) (start .args .tag) (start .args .kind)
 
-same : (c : tie.After-made) → inRange (asked (c .before .before .before .before .before)) ≡ true → c .made .result ≡ asked (c .before .before .before .before .before)
+-- the start, seen after the seats' test, and after the link is made
+abbrev start1 : tie.After-seats-sound → tie.Start
+start1 c = c .before .before .before .before
+
+abbrev start2 : tie.After-made → tie.Start
+start2 c = start1 (c .before .before .before .before)
+
+same : (c : tie.After-made) → inRange (asked (start2 c)) ≡ true → c .made .result ≡ asked (start2 c)
 same c fits = c .made .ensures ∙ made-fits _ _ _ fits
 
 -- the table's own edit, and the start, seen after the names
@@ -34,23 +41,27 @@ abbrev edit : tie.After-all-named → tie.After-add
 edit c = c .before .before .before .before .before
 
 abbrev start : tie.After-all-named → tie.Start
-start c = edit c .before .before .before .before .before .before
+start c = start2 (edit c .before)
+
+-- whether the seats are sound
+seats : (c : tie.After-seats-sound) → c .seats-sound .result ≡ soundSeats (modelOf (start1 c .args .t1))
+seats c = c .seats-sound .ensures (start1 c .args .t1 .table)
 
 -- whether the panel is sound
-whole : (c : tie.After-all-named) → not (eqb (edit c .add .result .answer) 12) && c .all-named .result ≡ isSound (modelOf (start c .args .panel))
+whole : (c : tie.After-all-named) → not (eqb (edit c .add .result .answer) 12) && c .all-named .result ≡ isSound (modelOf (start c .args .t1))
 whole c =
     let done = edit c in
     let passed = done .before .before .before .before in
-    whole-sound (passed .before .before .args .panel) (sym (passed .before .seats-sound .ensures) ∙ not-false _ (passed .if1 .left))
-    (add-sound-told _ _ (done .add .result) (modelOf (passed .before .before .args .panel)) noCells (same (done .before)) (done .add .ensures))
+    whole-sound (start c .args .t1) (sym (seats (passed .before)) ∙ not-false _ (passed .if1 .left))
+    (add-sound-told _ _ (done .add .result) (modelOf (start c .args .t1)) noCells (same (done .before)) (done .add .ensures))
     (c .all-named .ensures)
 
-sound : (c : tie.Else2) → isSound (modelOf (start (c .before) .args .panel)) ≡ true
+sound : (c : tie.Else2) → isSound (modelOf (start (c .before) .args .t1)) ≡ true
 sound c = sym (whole (c .before)) ∙ not-false _ (c .if2 .left)
 
 -- the number of the rule
 number : (c : tie.After-judge-new)
-    → (let from = start (c .before .before .before .before .before) in refusal (addRule (asked from) .checks (modelOf (from .args .panel)) noCells) ≡ c .judge-new .result)
+    → (let from = start (c .before .before .before .before .before) in refusal (addRule (asked from) .checks (modelOf (from .args .t1)) noCells) ≡ c .judge-new .result)
 number c =
     let two = c .before .before .before .before in
     let done = edit (two .before) in
@@ -59,7 +70,7 @@ number c =
 
 returns : tie.Need-returns
 unfolding addRule
-returns c = refuses _ _ _ 12 refl (not-sound _ _ _ (seats-fail _ (sym (c .before .seats-sound .ensures) ∙ not-true _ (c .if1 .taken))))
+returns c = refuses _ _ _ 12 refl (not-sound _ _ _ (seats-fail _ (sym (seats (c .before)) ∙ not-true _ (c .if1 .taken))))
 
 returns-2 : tie.Need-returns-2
 unfolding addRule
@@ -73,7 +84,7 @@ unfolding addRule
 returns-4 c =
     let named = c .before .before .before .before .before .before in
     let done = edit named in
-    let p = start named .args .panel in
+    let p = start named .args .t1 in
     let zero = number (c .before) ∙ c .if3 .left in
     let left = add-done _ _ (done .add .result) (modelOf p) noCells (same (done .before)) (done .add .ensures) zero in
     does _ _ _ zero refl (left .0) (table-written p (done .add .result .table) (left .1)) refl

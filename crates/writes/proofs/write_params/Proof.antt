@@ -14,6 +14,7 @@ use Rattle.tags.specs.Tags.{places}
 use Rattle.panel.specs.Panel.{modelOf}
 use Rattle.panel.specs.Sound.{isSound}
 use Rattle.panel.specs.Calls.{noCells, outside}
+use Rattle.panel.proofs.Decides.{parts-decide}
 use Rattle.panel.proofs.Checks.{not-sound, is-sound}
 use Rattle.panel.proofs.Rules.{refuses, refuses-with, does}
 use Rattle.params.specs.Numbers.{rowOf}
@@ -29,18 +30,29 @@ use Rattle.writes.proofs.write_params.Tie as tie
 blinds-long : (c : tie.Start) → length (c .args .t1 .blinds) ≡ 64
 blinds-long c = search (long, needs)
 
-sound : (c : tie.Else1) → isSound (modelOf (c .before .before .args .t1)) ≡ true
-sound c = sym (c .before .is-sound .ensures) ∙ not-false _ (c .if1 .left)
+-- the test of the seats, and the start, seen after that of the whole panel
+abbrev seated : tie.After-is-sound → tie.After-seats-sound
+seated c = c .before .before .before .before .before
+
+abbrev from : tie.After-is-sound → tie.Start
+from c = seated c .before .before .before .before
+
+-- whether the panel is sound
+whole : (c : tie.After-is-sound) → c .is-sound .result ≡ isSound (modelOf (from c .args .t1))
+whole c = parts-decide (from c .args .t1) (seated c .seats-sound .ensures) (c .is-sound .ensures)
+
+sound : (c : tie.Else1) → isSound (modelOf (from (c .before) .args .t1)) ≡ true
+sound c = sym (whole (c .before)) ∙ not-false _ (c .if1 .left)
 
 -- the number of the rule
 number : (c : tie.After-judge-named)
-    → (let start = c .before .before .before .before .before .before in
+    → (let start = from (c .before .before .before .before .before) in
     refusal (writeRule (start .args .tag) (rowOf (start .args .asked)) .checks (modelOf (start .args .t1)) noCells) ≡ c .judge-named .result)
 unfolding writeRule
 number c =
     let asked = c .before .before in
     let one = asked .before .before in
-    let start = one .before .before in
+    let start = from (one .before) in
     is-sound _ _ _ (sound one)
     ∙ sym (c .judge-named .ensures
     ∙ named-told (start .args .t1) (start .args .tag) _ (λ e. leb-false places _ (neither-left (leb places (start .args .tag)) _ e))
@@ -48,7 +60,7 @@ number c =
 
 returns : tie.Need-returns
 unfolding writeRule
-returns c = refuses _ _ _ 12 refl (not-sound _ _ _ (sym (c .before .is-sound .ensures) ∙ not-true _ (c .if1 .taken)))
+returns c = refuses _ _ _ 12 refl (not-sound _ _ _ (sym (whole (c .before)) ∙ not-true _ (c .if1 .taken)))
 
 returns-2 : tie.Need-returns-2
 returns-2 c = refuses-with _ _ _ _ (c .if2 .taken) (number (c .before))
@@ -57,7 +69,7 @@ returns-3 : tie.Need-returns-3
 unfolding writeRule
 returns-3 c =
     let two = c .before .before in
-    let start = two .before .before .before .before .before .before .before in
+    let start = from (two .before .before .before .before .before .before) in
     let zero = number (two .before) ∙ two .if2 .left in
     let ok : Writable (start .args .tag) (modelOf (start .args .t1)) noCells (rowOf (start .args .asked)) = writable _ _ _ _ zero in
     does _ _ _ zero refl refl
@@ -69,7 +81,7 @@ pub write-params-spec : {M : Type 1} → statement M
 write-params-spec =
     tie.close
     (tie.spec
-    (λ c κs. search needs)
+    (λ c κs. search needs) (λ c κs. search needs)
     returns
     (λ c. search needs) (λ c. search (long, needs)) (λ c κs. search needs) (λ c κs. search needs)
     returns-2
