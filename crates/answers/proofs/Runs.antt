@@ -2,7 +2,7 @@
 -- Assumes nothing.
 use mathlib.Core.Path.{_≡_, sym, ap, _∙_}
 use mathlib.Core.List.{List, [], _∷_}
-use Rattle.answers.specs.Rules.{Rule, Result, carried}
+use Rattle.answers.specs.Rules.{Result, carried}
 use Rattle.answers.specs.Runs.{Turn, read, Allows, Ran, SameOutcome, SameRun}
 
 -- being the same is to be read as the same

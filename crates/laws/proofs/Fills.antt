@@ -35,6 +35,15 @@ module _ {A : Type 0} where
       ap₂ (λ (x : A) (xs : List A). x ∷ xs) (same 0 (omega arith))
       (tabulate-same n (λ k. f (suc k)) (λ k. g (suc k)) (λ k h. same (suc k) (omega arith)))
 
+  -- one place set anew, and every other as it was
+  pub tabulate-set : (n : ℕ) (f g : ℕ → A) (k : ℕ) → ((j : ℕ) → (j ≡ k → ⊥) → f j ≡ g j) → set (tabulate n f) k (g k) ≡ tabulate n g
+  unfolding tabulate
+  tabulate-set zero f g k same = refl
+  tabulate-set (suc n) f g zero same = ap (λ (xs : List A). g 0 ∷ xs) (tabulate-same n (λ j. f (suc j)) (λ j. g (suc j)) (λ j h. same (suc j) (λ e. omega arith)))
+  tabulate-set (suc n) f g (suc k) same =
+      ap₂ (λ (x : A) (xs : List A). x ∷ xs) (same 0 (λ e. omega arith))
+      (tabulate-set n (λ j. f (suc j)) (λ j. g (suc j)) k (λ j other. same (suc j) (λ e. other (omega arith))))
+
   -- a list is the table of its elements
   pub tabulate-list : (l : List A) (d : A) → tabulate (length l) (λ k. getD l k d) ≡ l
   unfolding tabulate

@@ -3,15 +3,9 @@ use Prim.Native.Nat.{ℕ, _+_, _*_, _/_, _%_, _<_}
 use native.Mathlib.Omega.{arith}
 use mathlib.Core.Path.{_≡_, refl}
 use Rattle.link.specs.declared.Link.{Link}
-use Rattle.link.specs.Link.{nothing, keyOf, ofWord, Before}
+use Rattle.link.specs.Link.{nothing, keyOf, ofWord, Fits, Before}
 use Rattle.link.proofs.Keys.{before-key, key-before}
 use Rattle.link.proofs.Ranges.{InRange}
-
--- the fields of a link as a machine holds them: 16, 8 and 8 bits
-pub record Fits (l : Link) : Type 0 where
-  pub address : l .address < 65536
-  pub tag : l .tag < 256
-  pub kind : l .kind < 256
 
 -- the link of a word has this word, whatever the word
 pub word-back : (w : ℕ) → keyOf (ofWord w) ≡ w

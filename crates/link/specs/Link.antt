@@ -49,6 +49,12 @@ keyOf l = l .address * 65536 + l .tag * 256 + l .kind
 unfoldable pub ofWord : ℕ → Link
 ofWord w = linkOf (w / 65536) (w / 256 % 256) (w % 256)
 
+-- The numbers of a link as a machine holds them, in range or not: 16, 8 and 8 bits.
+pub record Fits (l : Link) : Type 0 where
+  pub address : l .address < 65536
+  pub tag : l .tag < 256
+  pub kind : l .kind < 256
+
 -- Whether a link may stand right after another: in range, above it, and of its class if the address is the same.
 unfoldable pub mayFollow : Link → Link → Bool
 mayFollow last next =

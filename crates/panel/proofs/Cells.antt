@@ -3,24 +3,21 @@
 use Prim.Native.Nat.{ℕ, _≤_, _<_}
 use native.Mathlib.Nat.{le-refl}
 use native.Mathlib.Omega.{arith}
-use mathlib.Core.Path.{_≡_, refl, sym, ap, ap₂, _∙_}
-use mathlib.Core.Bool.{Bool, true, false, cond, not, _&&_}
+use mathlib.Core.Path.{_≡_, ap, ap₂, _∙_}
+use mathlib.Core.Bool.{Bool, true, cond, not, _&&_}
 use mathlib.Core.List.{List}
-use mathlib.Core.Option.{none, some}
+use mathlib.Core.Option.{some}
 use lib.ListN.{length, getD}
 use Rattle.laws.specs.Fills.{filled}
-use Rattle.laws.proofs.Choices.{cond-has, never-both}
+use Rattle.laws.proofs.Choices.{cond-has}
 use Rattle.laws.proofs.Fills.{filled-all, tabulate-same, tabulate-at}
-use Rattle.tags.specs.Tags.{TagSet, places, tagsOf}
+use Rattle.tags.specs.Tags.{places}
 use Rattle.blind.specs.declared.Blind.{Blind}
 use Rattle.heights.specs.Heights.{told}
 use Rattle.heights.proofs.Numbers.{told-most}
 use Rattle.outputs.specs.Reports.{active, noReport, report}
 use Rattle.sound_blind.specs.Sound as ofBlind
-use Rattle.panel.specs.declared.Panel.{Panel}
-use Rattle.panel.specs.Panel.{Seat, Model, nobody, placeOf, seatsOf, modelOf, presentIn}
-use Rattle.panel.specs.Sound.{Sound}
-use Rattle.panel.proofs.Seats.{present-tags, seat-present}
+use Rattle.panel.specs.Panel.{Seat, Model}
 use Rattle.panel.specs.Reports.{cell, reports}
 
 -- what a sound blind reports is at most 512
@@ -48,36 +45,3 @@ pub cell-seen : (m n : Model) (tag : ℕ) (seat : Seat) (new : Blind) → tag < 
     → n .seats tag ≡ some (record { terminal = seat .terminal; blind = new }) → getD (reports m n) tag noReport ≡ report (seat .blind) new
 unfolding reports
 cell-seen m n tag seat new h e f = tabulate-at places (λ t. cell (m .seats t) (n .seats t)) tag noReport h ∙ ap₂ cell e f
-
--- ---- two panels with the same tags
-
-module _ (before after : Panel) where
-  -- what is written for a tag
-  abbrev pub written : ℕ → ℕ
-  written tag = cond (tagsOf (before .present) tag) (report (getD (before .blinds) tag nobody) (getD (after .blinds) tag nobody)) noReport
-
-  pub written-is : (tag : ℕ) {there : Bool} {n : ℕ} → there ≡ tagsOf (before .present) tag
-      → n ≡ cond there (report (getD (before .blinds) tag nobody) (getD (after .blinds) tag nobody)) noReport → n ≡ written tag
-  written-is tag shown e = e ∙ ap (λ (t : Bool). cond t (report (getD (before .blinds) tag nobody) (getD (after .blinds) tag nobody)) noReport) shown
-
-  module _ (same : presentIn (modelOf after) ≡ presentIn (modelOf before)) where
-    same-tags : (tag : ℕ) → tagsOf (after .present) tag ≡ tagsOf (before .present) tag
-    same-tags tag = ap (λ (s : TagSet). s tag) (sym (present-tags after) ∙ same ∙ present-tags before)
-
-    -- it fits
-    pub written-most : Sound (modelOf after) → (tag : ℕ) {there : Bool} {n : ℕ} → there ≡ tagsOf (before .present) tag
-        → n ≡ cond there (report (getD (before .blinds) tag nobody) (getD (after .blinds) tag nobody)) noReport → n ≤ noReport
-    written-most s tag {there} shown e =
-        cell-most there _ _ (λ is. s .blinds tag (placeOf after tag) (seat-present after tag (same-tags tag ∙ sym shown ∙ is))) e
-
-    -- it is the cell of the tag
-    pub written-cell : (tag : ℕ) → written tag ≡ cell (seatsOf before tag) (seatsOf after tag)
-    unfolding seatsOf
-    written-cell tag = go (tagsOf (before .present) tag) (tagsOf (after .present) tag) (same-tags tag)
-      where
-        go : (b a : Bool) → a ≡ b
-            → cond b (report (getD (before .blinds) tag nobody) (getD (after .blinds) tag nobody)) noReport
-            ≡ cell (cond b (some (placeOf before tag)) none) (cond a (some (placeOf after tag)) none)
-        go true true e = refl
-        go true false e = never-both false e refl
-        go false a e = refl

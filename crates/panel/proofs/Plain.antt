@@ -4,28 +4,23 @@ use Prim.Native.Nat.{ℕ, _≤_}
 use mathlib.Core.Path.{_≡_, refl, ap, fun-ext}
 use mathlib.Core.Bool.{false}
 use mathlib.Core.List.{List}
-use mathlib.Core.Option.{Option}
-use lib.ListN.{length, getD}
+use lib.ListN.{getD}
 use Rattle.answers.specs.Rules.{Result}
 use Rattle.answers.specs.Runs.{Turn, Allows, Ran, SameOutcome, SameRun}
 use Rattle.answers.proofs.Runs as runs
-use Rattle.table.specs.Sound.{most}
-use Rattle.table.specs.Links.{Held}
-use Rattle.table.specs.Plain.{Plain, packed}
-use Rattle.table.proofs.Plain.{same-held, held-same, packed-whole, packed-same, untidy}
-use Rattle.link.specs.Link.{nothing}
-use Rattle.link.proofs.Packed.{Fits}
+use Rattle.table.proofs.Plain.{same-held, held-same, packed-words, packed-same, untidy}
+use Rattle.link.specs.Link.{nothing, Fits}
 use Rattle.panel.specs.declared.Panel.{Panel}
 use Rattle.panel.specs.declared.calls.Answered.{Answered}
 use Rattle.panel.specs.Panel.{Seat, Model, seatsOf, modelOf}
 use Rattle.panel.specs.Sound.{isSound}
 use Rattle.panel.specs.Calls.{Cells, CallRule, Does}
-use Rattle.panel.specs.Plain.{PlainPanel, plainSeats, plainModel, Words, Links, SamePanel}
+use Rattle.panel.specs.Plain.{PlainPanel, plainSeats, plainModel, Words, Links, SamePanel, inWords}
 use Rattle.panel.proofs.Decides.{links-fail}
 
 -- panels that are the same stand for the same, and the other way round
 same-models : (p : Panel) (q : PlainPanel) → Words p → Links q → SamePanel p q → modelOf p ≡ plainModel q
-same-models p q w w′ same = λ i. record { seats = fun-ext (same .seats) i; table = same-held (p .table) (q .table) (w, w′) (same .table) i }
+same-models p q w w′ same = λ i. record { seats = fun-ext (same .seats) i; table = same-held (p .table) (q .table) w w′ (same .table) i }
 
 models-same : (p : Panel) (q : PlainPanel) → modelOf p ≡ plainModel q → SamePanel p q
 models-same p q e =
@@ -50,17 +45,14 @@ pub does-allows : (rule : CallRule) (panel : Panel) (entry : Cells) (r : Answere
 does-allows rule panel entry r exit whole does = record { outcome = does .outcome; whole = whole }
 
 -- every old panel has one of words that is the same
-module _ (q : PlainPanel) (whole : Links q) (fits : (i : ℕ) → Fits (getD (q .table .places) i nothing)) where
-  pub inWords : Panel
-  inWords = record { present = q .present; terminals = q .terminals; blinds = q .blinds; table = packed (q .table) }
-
-  pub words-whole : Words inWords
+module _ (q : PlainPanel) (fits : (i : ℕ) → Fits (getD (q .table .places) i nothing)) where
+  pub words-whole : Words (inWords q)
   unfolding inWords
-  words-whole = packed-whole (q .table) whole fits .0
+  words-whole = packed-words (q .table) fits
 
-  pub words-same : SamePanel inWords q
+  pub words-same : Links q → SamePanel (inWords q) q
   unfolding inWords seatsOf plainSeats
-  words-same = record { seats = λ tag. refl; table = packed-same (q .table) whole fits }
+  words-same whole = record { seats = λ tag. refl; table = packed-same (q .table) fits whole }
 
 -- something in an unused place
 pub untidy-panel : (p : Panel) (i : ℕ) → p .table .count ≤ i → (getD (p .table .words) i 0 ≡ 0 → ⊥) → isSound (modelOf p) ≡ false

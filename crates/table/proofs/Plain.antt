@@ -4,7 +4,7 @@ use Prim.Native.Nat.{ℕ, _≤_, _<_, min}
 use native.Mathlib.Omega.{arith}
 use native.Mathlib.Decide.{decLt}
 use mathlib.Core.Path.{_≡_, refl, sym, ap, _∙_}
-use mathlib.Core.Bool.{Bool, true, false, cond, _&&_}
+use mathlib.Core.Bool.{Bool, false, cond, _&&_}
 use mathlib.Core.List.{List, []}
 use lib.ListN.{length, getD, take, length-take, List·getD-eq-default}
 use lib.Seq.{getD-take, ext-getD}
@@ -14,30 +14,29 @@ use Rattle.laws.proofs.Choices.{is-false}
 use Rattle.laws.proofs.Outcomes.{one-answer}
 use Rattle.laws.proofs.Fills.{tabulate-length, tabulate-at}
 use Rattle.link.specs.declared.Link.{Link}
-use Rattle.link.specs.Link.{nothing, keyOf, ofWord}
-use Rattle.link.proofs.Packed.{Fits, link-back, unused-word}
+use Rattle.link.specs.Link.{nothing, keyOf, ofWord, Fits}
+use Rattle.link.proofs.Packed.{link-back, unused-word}
 use Rattle.table.specs.declared.Table.{Table}
-use Rattle.table.specs.Links.{Held, heldOf, holding}
+use Rattle.table.specs.Links.{Held, linksIn, heldOf, holding}
 use Rattle.table.specs.Sound.{most, inOrder, isSound}
 use Rattle.table.specs.Search.{searched}
-use Rattle.table.specs.Plain.{Plain, plainHeld, Whole, Same, packed}
+use Rattle.table.specs.Plain.{Plain, plainHeld, Words, Links, Same, packed}
 use Rattle.table.proofs.Stores.{places, held-at, unused-zero, zero-unused}
 use Rattle.table.proofs.Sound.{sound-tidy}
-use Rattle.table.proofs.Halving.{inTable}
 
 -- ---- place by place, and as a whole
 
 module _ (t : Table) (p : Plain) where
   -- tables that are the same place by place hold the same
-  pub same-held : Whole t p → Same t p → heldOf t ≡ plainHeld p
-  same-held whole same = λ i. record { count = same .count i; links = links i; tidy = zero-unused t unused i }
+  pub same-held : Words t → Links p → Same t p → heldOf t ≡ plainHeld p
+  same-held words places-all same = λ i. record { count = same .count i; links = links i; tidy = zero-unused t unused i }
     where
       unused : (i : ℕ) → t .count ≤ i → getD (t .words) i 0 ≡ 0
       unused i h = same .unused i (omega (arith, same .count))
 
       links : heldOf t .links ≡ take (p .count) (p .places)
       links =
-          ext-getD nothing (heldOf t .links) (take (p .count) (p .places)) (omega (arith, places t, length-take (p .count) (p .places), whole, same .count))
+          ext-getD nothing (heldOf t .links) (take (p .count) (p .places)) (omega (arith, places t, length-take (p .count) (p .places), words, places-all, same .count))
           (λ i h. held-at t i (omega (arith, places t)) ∙ same .links i (omega (arith, places t, same .count)) ∙ sym (getD-take (p .count) (p .places) i nothing (omega (arith, places t, same .count))))
 
   -- and tables that hold the same are the same place by place
@@ -57,17 +56,17 @@ module _ (t : Table) (p : Plain) where
 
 -- ---- the calls that read a table, any outcome of the new promise against any of the old one
 
-module _ (t : Table) (p : Plain) (whole : Whole t p) (same : Same t p) where
+module _ (t : Table) (p : Plain) (words : Words t) (places-all : Links p) (same : Same t p) where
   pub same-sound : {new old : Bool} → new ≡ isSound (heldOf t) → old ≡ isSound (plainHeld p) → new ≡ old
-  same-sound e f = e ∙ ap isSound (same-held t p whole same) ∙ sym f
+  same-sound e f = e ∙ ap isSound (same-held t p words places-all same) ∙ sym f
 
-  pub same-below : (key : ℕ) {new old : ℕ} → new ≡ searched key (inTable t) → old ≡ searched key (plainHeld p .links) → new ≡ old
-  same-below key e f = e ∙ ap (searched key) all ∙ ap (λ (h : Held). searched key (h .links)) (same-held t p whole same) ∙ sym f
+  pub same-below : (key : ℕ) {new old : ℕ} → new ≡ searched key (linksIn (min (t .count) most) (t .words)) → old ≡ searched key (plainHeld p .links) → new ≡ old
+  same-below key e f = e ∙ ap (searched key) all ∙ ap (λ (h : Held). searched key (h .links)) (same-held t p words places-all same) ∙ sym f
     where
-      all : inTable t ≡ heldOf t .links
+      all : linksIn (min (t .count) most) (t .words) ≡ heldOf t .links
       all =
           let few : Table = record { count = min (t .count) most; words = t .words } in
-          ext-getD nothing (inTable t) (heldOf t .links) (omega (arith, places t, places few, whole .0))
+          ext-getD nothing (heldOf few .links) (heldOf t .links) (omega (arith, places t, places few, words))
           (λ i h. held-at few i (omega (arith, places few)) ∙ sym (held-at t i (omega (arith, places few))))
 
 -- the table without links
@@ -81,20 +80,20 @@ plain-sound p = refl
 
 -- ---- every old table has its words
 
-module _ (p : Plain) (whole : length (p .places) ≡ most) (fits : (i : ℕ) → Fits (getD (p .places) i nothing)) where
+module _ (p : Plain) (fits : (i : ℕ) → Fits (getD (p .places) i nothing)) where
   abbrev word : ℕ → ℕ
   word i = cond (ltb i (p .count)) (keyOf (getD (p .places) i nothing)) 0
 
-  pub packed-whole : Whole (packed p) p
+  pub packed-words : Words (packed p)
   unfolding packed
-  packed-whole = (tabulate-length most word, whole)
+  packed-words = tabulate-length most word
 
-  pub packed-same : Same (packed p) p
+  pub packed-same : Links p → Same (packed p) p
   unfolding packed
-  packed-same = record { count = refl; links = links; unused = unused }
+  packed-same places-all = record { count = refl; links = links; unused = unused }
     where
       past : (i : ℕ) → most ≤ i → getD (packed p .words) i 0 ≡ 0
-      past i h = List·getD-eq-default (packed p .words) 0 (omega (arith, packed-whole .0))
+      past i h = List·getD-eq-default (packed p .words) 0 (omega (arith, packed-words))
 
       links : (i : ℕ) → i < p .count → ofWord (getD (packed p .words) i 0) ≡ getD (p .places) i nothing
       links i h = go (decLt i most)

@@ -23,9 +23,12 @@ pub record Plain : Type 0 where
 abbrev pub plainHeld : Plain → Held
 plainHeld p = record { count = p .count; links = take (p .count) (p .places); tidy = true }
 
--- Both have their 512 places, as every table that a program has.
-abbrev pub Whole : Table → Plain → Type 0
-Whole t p = (length (t .words) ≡ most) × (length (p .places) ≡ most)
+-- A table has its 512 words, and the old one its 512 links, as every table that a program has.
+abbrev pub Words : Table → Type 0
+Words t = length (t .words) ≡ most
+
+abbrev pub Links : Plain → Type 0
+Links p = length (p .places) ≡ most
 
 -- The two hold the same links, place by place, and "unused words are 0".
 pub record Same (t : Table) (p : Plain) : Type 0 where

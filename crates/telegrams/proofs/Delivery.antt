@@ -31,11 +31,11 @@ use Rattle.panel.specs.Panel.{Seat, Model, nobody, placeOf, seatsOf, modelOf, r
 use Rattle.panel.specs.Fields.{withBlinds}
 use Rattle.panel.specs.Sound.{Sound}
 use Rattle.panel.specs.Reports.{reports}
-use Rattle.panel.proofs.Cells.{written, report-most}
+use Rattle.panel.proofs.Cells.{report-most}
 use Rattle.panel.proofs.Seats.{same-model, seat-present, present-tags, blind-written}
 use Rattle.telegrams.specs.Telegrams.{served, delivered}
 use Rattle.telegrams.proofs.Soundness.{handed-sound}
-use Rattle.telegrams.proofs.Told.{none-told, one-told, all-told}
+use Rattle.telegrams.proofs.Told.{written, none-told, one-told, all-told}
 
 -- the first of the elements from a place on, and those after it
 first-next : {A : Type 0} (ls : List A) (d : A) (i k : ℕ) → i < length ls → take (suc k) (drop i ls) ≡ getD ls i d ∷ take k (drop (i + 1) ls)

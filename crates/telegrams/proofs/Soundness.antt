@@ -1,7 +1,7 @@
--- A telegram keeps a sound panel sound, and no tag gets or loses its blind.
+-- A telegram keeps a sound panel sound.
 -- Assumes nothing.
 use Prim.Native.Nat.{ℕ, _≤_}
-use mathlib.Core.Path.{_≡_, refl, sym, ap, _∙_, subst, fun-ext}
+use mathlib.Core.Path.{_≡_, refl, sym, subst}
 use mathlib.Core.List.{List, [], _∷_}
 use lib.Dec.{eqb}
 use Rattle.answers.specs.Answers.{refusal}
@@ -13,11 +13,11 @@ use Rattle.rules.specs.Rules.{heeded}
 use Rattle.values.specs.Telegrams.{inputOf}
 use Rattle.conduct.proofs.SoundCourses.{heeded-sound, input-of-class}
 use Rattle.link.specs.declared.Link.{Link}
-use Rattle.panel.specs.Panel.{Seat, Model, presentIn, eachSeat, onBlind}
+use Rattle.panel.specs.Panel.{Seat, Model, eachSeat, onBlind}
 use Rattle.panel.specs.Sound.{Sound}
 use Rattle.panel.specs.Calls.{Cells}
 use Rattle.panel.proofs.Checks.{lent-passed}
-use Rattle.panel.proofs.Kept.{each-present, blinds-sound}
+use Rattle.panel.proofs.Kept.{blinds-sound}
 use Rattle.telegrams.specs.Telegrams.{isOutside, linkChecks, served, delivered, afterTelegram, telegramRule}
 use Rattle.telegrams.proofs.Ranges.{inside}
 
@@ -41,12 +41,6 @@ module _ (value : ℕ) where
       delivered-sound byte links (eachSeat (served value link) m)
       (blinds-sound (served value link) m s (served-stays link) (λ tag seat at. served-sound byte link tag seat (s .blinds tag seat at)))
 
-  pub delivered-present : (links : List Link) (m : Model) → presentIn (delivered value links m) ≡ presentIn m
-  unfolding delivered
-  delivered-present [] m = refl
-  delivered-present (link ∷ links) m =
-      delivered-present links (eachSeat (served value link) m) ∙ fun-ext (each-present (served value link) m)
-
 pub telegram-keeps : (address value : ℕ) (m : Model) (cells : Cells) → Sound m → refusal (telegramRule address value .checks m cells) ≡ 0
     → Sound (telegramRule address value .leaves m)
 unfolding telegramRule afterTelegram
@@ -54,11 +48,6 @@ telegram-keeps address value m cells s e =
     let known = lent-passed places cells m (isOutside address value) (linkChecks address value (m .table .links)) e in
     delivered-sound value (inside address value (known .1 .within) .byte) (linksTo address (m .table .links)) m s
 
--- ---- a panel that a function hands back
-
--- one that stands for what a delivery leaves
+-- a panel that stands for what a delivery leaves
 pub handed-sound : (value : ℕ) (links : List Link) (m : Model) {n : Model} → value ≤ 255 → Sound m → n ≡ delivered value links m → Sound n
 handed-sound value links m byte s e = subst Sound (sym e) (delivered-sound value byte links m s)
-
-pub handed-present : (value : ℕ) (links : List Link) (m : Model) {n : Model} → n ≡ delivered value links m → presentIn n ≡ presentIn m
-handed-present value links m e = ap presentIn e ∙ delivered-present value links m

@@ -1,30 +1,26 @@
 -- The cells, link by link: a link writes the cell of its tag, and what stood in every other still holds. Assumes nothing.
-use Prim.Native.Nat.{ℕ, zero, suc, _<_}
-use native.Mathlib.Omega.{arith}
+use Prim.Native.Nat.{ℕ, _<_}
 use mathlib.Core.Path.{_≡_, refl, sym, ap, ap₂, _∙_}
 use mathlib.Core.Bool.{Bool, true, false, cond, not, _&&_}
-use mathlib.Core.List.{List, [], _∷_}
+use mathlib.Core.Option.{none, some}
 use lib.ListN.{length, getD, set}
 use lib.Seq.{getD-set-same, getD-set-other}
 use Rattle.laws.specs.Fills.{tabulate}
-use Rattle.laws.proofs.Fills.{tabulate-same}
-use Rattle.tags.specs.Tags.{places, tagsOf}
+use Rattle.laws.proofs.Choices.{never-both}
+use Rattle.laws.proofs.Fills.{tabulate-same, tabulate-set}
+use Rattle.tags.specs.Tags.{TagSet, places, tagsOf}
 use Rattle.blind.specs.declared.Blind.{Blind}
 use Rattle.heights.specs.Heights.{told}
 use Rattle.outputs.specs.Reports.{active, noReport, report}
 use Rattle.panel.specs.declared.Panel.{Panel}
-use Rattle.panel.specs.Panel.{nobody, seatsOf, modelOf, presentIn}
+use Rattle.panel.specs.Panel.{nobody, placeOf, seatsOf, modelOf, presentIn}
 use Rattle.panel.specs.Fields.{withBlinds}
 use Rattle.panel.specs.Reports.{cell, reports}
-use Rattle.panel.proofs.Cells.{written, written-cell}
+use Rattle.panel.proofs.Seats.{present-tags}
 
--- a list by its places, one of them set anew
-tabulate-set : {A : Type 0} (n : ℕ) (f g : ℕ → A) (k : ℕ) → ((j : ℕ) → (j ≡ k → ⊥) → f j ≡ g j) → set (tabulate n f) k (g k) ≡ tabulate n g
-unfolding tabulate
-tabulate-set zero f g k same = refl
-tabulate-set (suc n) f g zero same = ap (λ xs. g 0 ∷ xs) (tabulate-same n (λ j. f (suc j)) (λ j. g (suc j)) (λ j h. same (suc j) (λ e. omega arith)))
-tabulate-set (suc n) f g (suc k) same =
-    ap₂ (λ x xs. x ∷ xs) (same 0 (λ e. omega arith)) (tabulate-set n (λ j. f (suc j)) (λ j. g (suc j)) k (λ j other. same (suc j) (λ e. other (omega arith))))
+-- what the cell of a tag is to hold
+abbrev pub written : Panel → Panel → ℕ → ℕ
+written before after tag = cond (tagsOf (before .present) tag) (report (getD (before .blinds) tag nobody) (getD (after .blinds) tag nobody)) noReport
 
 -- a blind that did not change has nothing to report
 still : (b : Blind) → report b b ≡ noReport
@@ -65,6 +61,14 @@ one-told before after tag b {n} there fits e =
 
 -- after the last one all cells tell of the whole call
 pub all-told : (before after : Panel) → presentIn (modelOf after) ≡ presentIn (modelOf before) → tabulate places (written before after) ≡ reports (modelOf before) (modelOf after)
-unfolding reports
+unfolding reports seatsOf
 all-told before after same =
-    tabulate-same places (written before after) (λ tag. cell (seatsOf before tag) (seatsOf after tag)) (λ tag h. written-cell before after same tag)
+    tabulate-same places (written before after) (λ tag. cell (seatsOf before tag) (seatsOf after tag))
+    (λ tag h. go tag (tagsOf (before .present) tag) (tagsOf (after .present) tag) (ap (λ (s : TagSet). s tag) (sym (present-tags after) ∙ same ∙ present-tags before)))
+  where
+    go : (tag : ℕ) (b a : Bool) → a ≡ b
+        → cond b (report (getD (before .blinds) tag nobody) (getD (after .blinds) tag nobody)) noReport
+        ≡ cell (cond b (some (placeOf before tag)) none) (cond a (some (placeOf after tag)) none)
+    go tag true true e = refl
+    go tag true false e = never-both false e refl
+    go tag false a e = refl

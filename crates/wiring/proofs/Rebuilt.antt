@@ -1,6 +1,5 @@
 -- Every sound panel is the one that its blinds give with its links, added afresh, by the panel's own call, in any order; and so
 -- is what each accepted edit of links leaves. The links' theorem gives the table; each of its calls is the panel's. Assumes nothing.
-use Prim.Native.Nat.{ℕ}
 use native.Mathlib.Omega.{arith}
 use mathlib.Core.Path.{_≡_, refl, sym, ap, _∙_, subst}
 use mathlib.Core.Bool.{true, not}

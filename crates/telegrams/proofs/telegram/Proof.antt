@@ -1,5 +1,5 @@
 -- Refused: as it was. Accepted: after each turn one more link of the address has spoken, and the cells tell of what has been done so far.
-use Prim.Native.Nat.{ℕ, _+_, _-_, _<_, _≤_}
+use Prim.Native.Nat.{_+_, _-_, _<_, _≤_}
 use native.Mathlib.Omega.{arith}
 use mathlib.Core.Path.{_≡_, refl, sym, ap, _∙_}
 use mathlib.Core.Bool.{Bool, true, not}
@@ -20,7 +20,7 @@ use Rattle.panel.specs.Reports.{reports}
 use Rattle.panel.proofs.Decides.{parts-decide, table-sound, sound-panel}
 use Rattle.panel.proofs.Checks.{lent-wrong, lent-right}
 use Rattle.panel.proofs.Rules.{refuses, refuses-with, does}
-use Rattle.telegrams.specs.Telegrams.{isOutside, linkChecks, Together, afterTelegram, telegramRule}
+use Rattle.telegrams.specs.Telegrams.{isOutside, linkChecks, Together, telegramRule}
 use Rattle.telegrams.specs.Cases.{Telegram}
 use Rattle.telegrams.proofs.Ranges.{inside}
 use Rattle.telegrams.proofs.Reached.{ends-low, span-delivered}

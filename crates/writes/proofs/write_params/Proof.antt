@@ -1,5 +1,4 @@
 -- Each test answers one check of the rule, in its order; past all of them the blind at the tag's place is rewritten.
-use Prim.Native.Nat.{_<_}
 use mathlib.Core.Path.{_≡_, refl, sym, ap, _∙_}
 use mathlib.Core.Bool.{Bool, true, not, _||_}
 use mathlib.Core.List.{_∷_}

@@ -1,5 +1,4 @@
 -- Each number is computed as it is defined, and fits its field.
-use native.Mathlib.Omega.{arith}
 use mathlib.Core.Path.{refl}
 use borrow.Author.Needs.{needs}
 use Rattle.link.specs.Link.{ofWord}

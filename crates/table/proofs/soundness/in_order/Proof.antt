@@ -1,7 +1,7 @@
 -- What was found so far and the links that are left are in order exactly if all are; at the end none is left.
 use Prim.Native.Nat.{_+_, _-_}
 use native.Mathlib.Omega.{arith}
-use mathlib.Core.Path.{_≡_, refl, sym, ap, _∙_}
+use mathlib.Core.Path.{_≡_, sym, ap, _∙_}
 use mathlib.Core.Bool.{_&&_}
 use lib.ListN.{length, getD, drop}
 use lib.Dec.{eqb}

@@ -7,7 +7,6 @@ use lib.ListN.{length, getD, drop}
 use lib.Dec.{eqb}
 use lib.Bits.{bitOr}
 use denote.Ref.{now}
-use borrow.Author.Needs.{needs}
 use Rattle.laws.specs.Every.{every}
 use Rattle.laws.proofs.Ors.{or-none}
 use Rattle.laws.proofs.Every.{every-on, every-over}
