@@ -1,7 +1,7 @@
 -- The cells, link by link: a link writes the cell of its tag, and what stood in every other still holds. Assumes nothing.
 use Prim.Native.Nat.{ℕ, _<_}
 use mathlib.Core.Path.{_≡_, refl, sym, ap, ap₂, _∙_}
-use mathlib.Core.Bool.{Bool, true, false, cond, not, _&&_}
+use mathlib.Core.Bool.{Bool, true, false, cond}
 use mathlib.Core.Option.{none, some}
 use lib.ListN.{length, getD, set}
 use lib.Seq.{getD-set-same, getD-set-other}
@@ -10,8 +10,8 @@ use Rattle.laws.proofs.Choices.{never-both}
 use Rattle.laws.proofs.Fills.{tabulate-same, tabulate-set}
 use Rattle.tags.specs.Tags.{TagSet, places, tagsOf}
 use Rattle.blind.specs.declared.Blind.{Blind}
-use Rattle.heights.specs.Heights.{told}
-use Rattle.outputs.specs.Reports.{active, noReport, report}
+use Rattle.outputs.specs.Reports.{noReport, report}
+use Rattle.outputs.proofs.Reports.{report-same}
 use Rattle.panel.specs.declared.Panel.{Panel}
 use Rattle.panel.specs.Panel.{nobody, placeOf, seatsOf, modelOf, presentIn}
 use Rattle.panel.specs.Fields.{withBlinds}
@@ -22,21 +22,12 @@ use Rattle.panel.proofs.Seats.{present-tags}
 abbrev pub written : Panel → Panel → ℕ → ℕ
 written before after tag = cond (tagsOf (before .present) tag) (report (getD (before .blinds) tag nobody) (getD (after .blinds) tag nobody)) noReport
 
--- a blind that did not change has nothing to report
-still : (b : Blind) → report b b ≡ noReport
-unfolding report
-still b = go (active b)
-  where
-    go : (on : Bool) → cond (on && not on) (told (b .params) (b .place)) noReport ≡ noReport
-    go true = refl
-    go false = refl
-
--- so before the first link no cell has a report
+-- before the first link no cell has a report
 pub none-told : (p : Panel) → tabulate places (λ tag. noReport) ≡ tabulate places (written p p)
 none-told p = tabulate-same places (λ tag. noReport) (written p p) (λ tag h. go (tagsOf (p .present) tag) (getD (p .blinds) tag nobody))
   where
     go : (there : Bool) (b : Blind) → noReport ≡ cond there (report b b) noReport
-    go true b = sym (still b)
+    go true b = sym (report-same b)
     go false b = refl
 
 -- a link writes the blind of its tag anew, and its cell
