@@ -1,6 +1,7 @@
 // Document 01, "Edits": add link, remove link. The link table's own edit does the work, answers how many surviving links
 // moved, and judges the table; the panel adds what only it knows, whether its seats are sound, whether every link names
-// a blind, and whether the new link's blind is there. A refused call hands back the very panel.
+// a blind, and whether the new link's blind is there. A refused call hands back the very panel. Terminals and blinds go to
+// their test by variables, and the words of the table's copy are lent: a panel that is lent from is copied once more.
 use answers::DONE;
 use answers::NO_BLIND;
 use answers::NOT_SOUND;
@@ -24,7 +25,9 @@ ghost use Rattle.wiring.specs.Wiring.{addRule, removeLinkRule};
 pub fn add_link(mut panel: Panel, address: u64, tag: u64, kind: u64) -> Answered
     ensures { λ r. ⌜ Does (addRule (linkOf address tag kind)) panel noCells r noCells ⌝ }
 {
-    if !seats_sound(panel.present, panel.terminals, panel.blinds) {
+    let terminals = panel.terminals;
+    let blinds = panel.blinds;
+    if !seats_sound(panel.present, terminals, blinds) {
         return Answered {
             answer: NOT_SOUND,
             count: 0,
@@ -34,8 +37,7 @@ pub fn add_link(mut panel: Panel, address: u64, tag: u64, kind: u64) -> Answered
     let present = panel.present;
     let table = panel.table;
     let grown = add(table, Link::made(address, tag, kind));
-    let sound = (grown.answer != NOT_SOUND)
-        & all_named(present, &panel.table.words, panel.table.count);
+    let sound = (grown.answer != NOT_SOUND) & all_named(present, &table.words, table.count);
     if !sound {
         return Answered {
             answer: NOT_SOUND,
@@ -44,11 +46,8 @@ pub fn add_link(mut panel: Panel, address: u64, tag: u64, kind: u64) -> Answered
         };
     }
     let links = grown.table;
-    let answer = judge_new(
-        Link::fits(address, tag, kind),
-        present.has(tag),
-        grown.answer,
-    );
+    let fits = Link::fits(address, tag, kind);
+    let answer = judge_new(fits, present.has(tag), grown.answer);
     if answer != DONE {
         return Answered {
             answer,
@@ -68,7 +67,9 @@ pub fn add_link(mut panel: Panel, address: u64, tag: u64, kind: u64) -> Answered
 pub fn remove_link(mut panel: Panel, address: u64, tag: u64, kind: u64) -> Answered
     ensures { λ r. ⌜ Does (removeLinkRule (linkOf address tag kind)) panel noCells r noCells ⌝ }
 {
-    if !seats_sound(panel.present, panel.terminals, panel.blinds) {
+    let terminals = panel.terminals;
+    let blinds = panel.blinds;
+    if !seats_sound(panel.present, terminals, blinds) {
         return Answered {
             answer: NOT_SOUND,
             count: 0,
@@ -77,8 +78,7 @@ pub fn remove_link(mut panel: Panel, address: u64, tag: u64, kind: u64) -> Answe
     }
     let table = panel.table;
     let shrunk = remove(table, Link::made(address, tag, kind));
-    let sound = (shrunk.answer != NOT_SOUND)
-        & all_named(panel.present, &panel.table.words, panel.table.count);
+    let sound = (shrunk.answer != NOT_SOUND) & all_named(panel.present, &table.words, table.count);
     if !sound {
         return Answered {
             answer: NOT_SOUND,

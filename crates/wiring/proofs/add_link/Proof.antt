@@ -28,7 +28,7 @@ asked start = linkOf (start .args .address) (start .args .tag) (start .args .kin
 
 -- the start, seen after the seats' test, and after the link is made
 abbrev start1 : tie.After-seats-sound → tie.Start
-start1 c = c .before .before .before .before
+start1 c = c .before .before .before
 
 abbrev start2 : tie.After-made → tie.Start
 start2 c = start1 (c .before .before .before .before)
@@ -44,24 +44,24 @@ abbrev start : tie.After-all-named → tie.Start
 start c = start2 (edit c .before)
 
 -- whether the seats are sound
-seats : (c : tie.After-seats-sound) → c .seats-sound .result ≡ soundSeats (modelOf (start1 c .args .t1))
-seats c = c .seats-sound .ensures (start1 c .args .t1 .table)
+seats : (c : tie.After-seats-sound) → c .seats-sound .result ≡ soundSeats (modelOf (start1 c .args .panel))
+seats c = c .seats-sound .ensures (start1 c .args .panel .table)
 
 -- whether the panel is sound
-whole : (c : tie.After-all-named) → not (eqb (edit c .add .result .answer) 12) && c .all-named .result ≡ isSound (modelOf (start c .args .t1))
+whole : (c : tie.After-all-named) → not (eqb (edit c .add .result .answer) 12) && c .all-named .result ≡ isSound (modelOf (start c .args .panel))
 whole c =
     let done = edit c in
     let passed = done .before .before .before .before in
-    whole-sound (start c .args .t1) (sym (seats (passed .before)) ∙ not-false _ (passed .if1 .left))
-    (add-sound-told _ _ (done .add .result) (modelOf (start c .args .t1)) noCells (same (done .before)) (done .add .ensures))
+    whole-sound (start c .args .panel) (sym (seats (passed .before)) ∙ not-false _ (passed .if1 .left))
+    (add-sound-told _ _ (done .add .result) (modelOf (start c .args .panel)) noCells (same (done .before)) (done .add .ensures))
     (c .all-named .ensures)
 
-sound : (c : tie.Else2) → isSound (modelOf (start (c .before) .args .t1)) ≡ true
+sound : (c : tie.Else2) → isSound (modelOf (start (c .before) .args .panel)) ≡ true
 sound c = sym (whole (c .before)) ∙ not-false _ (c .if2 .left)
 
 -- the number of the rule
 number : (c : tie.After-judge-new)
-    → (let from = start (c .before .before .before .before .before) in refusal (addRule (asked from) .checks (modelOf (from .args .t1)) noCells) ≡ c .judge-new .result)
+    → (let from = start (c .before .before .before .before .before) in refusal (addRule (asked from) .checks (modelOf (from .args .panel)) noCells) ≡ c .judge-new .result)
 number c =
     let two = c .before .before .before .before in
     let done = edit (two .before) in
@@ -84,7 +84,7 @@ unfolding addRule
 returns-4 c =
     let named = c .before .before .before .before .before .before in
     let done = edit named in
-    let p = start named .args .t1 in
+    let p = start named .args .panel in
     let zero = number (c .before) ∙ c .if3 .left in
     let left = add-done _ _ (done .add .result) (modelOf p) noCells (same (done .before)) (done .add .ensures) zero in
     does _ _ _ zero refl (left .0) (table-written p (done .add .result .table) (left .1)) refl

@@ -27,7 +27,7 @@ asked start = linkOf (start .args .address) (start .args .tag) (start .args .kin
 
 -- the start, seen after the seats' test, and after the link is made
 abbrev start1 : tie.After-seats-sound → tie.Start
-start1 c = c .before .before .before .before
+start1 c = c .before .before .before
 
 abbrev start2 : tie.After-made → tie.Start
 start2 c = start1 (c .before .before .before)
@@ -37,30 +37,30 @@ same c fits = c .made .ensures ∙ made-fits _ _ _ fits
 
 -- the table's own edit, and the start, seen after the names
 abbrev edit : tie.After-all-named → tie.After-remove
-edit c = c .before .before .before .before .before .before
+edit c = c .before .before .before .before .before
 
 abbrev start : tie.After-all-named → tie.Start
 start c = start2 (edit c .before)
 
 -- whether the seats are sound
-seats : (c : tie.After-seats-sound) → c .seats-sound .result ≡ soundSeats (modelOf (start1 c .args .t1))
-seats c = c .seats-sound .ensures (start1 c .args .t1 .table)
+seats : (c : tie.After-seats-sound) → c .seats-sound .result ≡ soundSeats (modelOf (start1 c .args .panel))
+seats c = c .seats-sound .ensures (start1 c .args .panel .table)
 
 -- whether the panel is sound
-whole : (c : tie.After-all-named) → not (eqb (edit c .remove .result .answer) 12) && c .all-named .result ≡ isSound (modelOf (start c .args .t1))
+whole : (c : tie.After-all-named) → not (eqb (edit c .remove .result .answer) 12) && c .all-named .result ≡ isSound (modelOf (start c .args .panel))
 whole c =
     let done = edit c in
     let passed = done .before .before .before in
-    whole-sound (start c .args .t1) (sym (seats (passed .before)) ∙ not-false _ (passed .if1 .left))
-    (remove-sound-told _ _ (done .remove .result) (modelOf (start c .args .t1)) noCells (same (done .before)) (done .remove .ensures))
+    whole-sound (start c .args .panel) (sym (seats (passed .before)) ∙ not-false _ (passed .if1 .left))
+    (remove-sound-told _ _ (done .remove .result) (modelOf (start c .args .panel)) noCells (same (done .before)) (done .remove .ensures))
     (c .all-named .ensures)
 
-sound : (c : tie.Else2) → isSound (modelOf (start (c .before) .args .t1)) ≡ true
+sound : (c : tie.Else2) → isSound (modelOf (start (c .before) .args .panel)) ≡ true
 sound c = sym (whole (c .before)) ∙ not-false _ (c .if2 .left)
 
 -- the number of the rule
 number : (c : tie.After-judge-old)
-    → (let from = start (c .before .before .before) in refusal (removeLinkRule (asked from) .checks (modelOf (from .args .t1)) noCells) ≡ c .judge-old .result)
+    → (let from = start (c .before .before .before) in refusal (removeLinkRule (asked from) .checks (modelOf (from .args .panel)) noCells) ≡ c .judge-old .result)
 number c =
     let two = c .before .before in
     let done = edit (two .before) in
@@ -83,7 +83,7 @@ unfolding removeLinkRule
 returns-4 c =
     let named = c .before .before .before .before .before in
     let done = edit named in
-    let p = start named .args .t1 in
+    let p = start named .args .panel in
     let zero = number (c .before .before) ∙ c .before .if3 .left in
     let left = remove-done _ _ (done .remove .result) (modelOf p) noCells (same (done .before)) (done .remove .ensures) zero in
     does _ _ _ zero refl (left .0) (table-written p (done .remove .result .table) (left .1)) refl
