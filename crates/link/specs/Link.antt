@@ -22,6 +22,10 @@ isAddress address = leb 1 address && leb address lastAddress
 unfoldable pub inRange : Link → Bool
 inRange l = isAddress (l .address) && leb (l .tag) lastTag && leb (l .kind) lastKind
 
+-- None of its numbers is past its last one; the address may be 0.
+unfoldable pub isBelowEnds : Link → Bool
+isBelowEnds l = leb (l .address) lastAddress && leb (l .tag) lastTag && leb (l .kind) lastKind
+
 -- The link of three numbers.
 abbrev pub linkOf : ℕ → ℕ → ℕ → Link
 linkOf address tag kind = record { address = address; tag = tag; kind = kind }

@@ -3,7 +3,7 @@
 pub mod words;
 
 ghost use mathlib.Core.Path.{_≡_};
-ghost use Rattle.link.specs.Link.{isAddress, linkOf, linkMade, inRange};
+ghost use Rattle.link.specs.Link.{isAddress, linkOf, linkMade, isBelowEnds, inRange};
 use kinds::LAST;
 
 const FIRST_ADDRESS: u64 = 1;
@@ -54,6 +54,15 @@ impl Link {
             tag: tag as u8,
             kind: kind as u8,
         }
+    }
+
+    // Whether none of its numbers is past its last one; an address of 0 is let through.
+    pub fn below_ends(self) -> bool
+        ensures { λ r. ⌜ r ≡ isBelowEnds self ⌝ }
+    {
+        (self.address as u64 <= LAST_ADDRESS)
+            & (self.tag as u64 <= LAST_TAG)
+            & (self.kind as u64 <= LAST_KIND)
     }
 
     pub fn in_range(self) -> bool

@@ -5,7 +5,7 @@ ghost use mathlib.Core.Path.{_≡_};
 ghost use mathlib.Core.Bool.{cond, not, _&&_, _||_};
 ghost use lib.Dec.{eqb, ltb};
 ghost use Rattle.kinds.specs.Kinds.{classOf};
-ghost use Rattle.link.specs.Link.{inRange, keyOf, ofWord};
+ghost use Rattle.link.specs.Link.{isBelowEnds, keyOf, ofWord};
 use crate::Link;
 use kinds::class_of_kind;
 
@@ -19,6 +19,9 @@ const TAGS: u32 = 256;
 
 // What stands in an unused place: it is no link's word.
 pub const UNUSED: u32 = 0;
+
+// The last word without an address: the words of all links are above it.
+pub const NO_ADDRESS: u32 = ADDRESSES - 1;
 
 impl Link {
     // The word of a link.
@@ -55,13 +58,13 @@ pub fn class_in(word: u32) -> u32
 }
 
 // 1 where a word may not stand right after another one, of its class or not, else 0: a number to add up, with no branch
-// to take.
+// to take. Where the one before has an address, so has every word above it.
 pub fn clash(word: u32, last: u32, alike: bool) -> u32
-    ensures { λ r. ⌜ r ≡ cond (inRange (ofWord word) && ltb last word && (not (eqb (ofWord word .address) (ofWord last .address)) || alike)) 0 1 ⌝ }
+    ensures { λ r. ⌜ r ≡ cond (isBelowEnds (ofWord word) && ltb last word && (not (eqb (ofWord word .address) (ofWord last .address)) || alike)) 0 1 ⌝ }
 {
     let link = Link::of(word);
     let above = last < word;
     let another = word / ADDRESSES != last / ADDRESSES;
-    let fits = link.in_range() & above & (another | alike);
+    let fits = link.below_ends() & above & (another | alike);
     !fits as u32
 }

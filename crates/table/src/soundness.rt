@@ -3,6 +3,7 @@
 // so that it can work on many words at once.
 use crate::MOST;
 use crate::search::smaller;
+use link::words::NO_ADDRESS;
 use link::words::UNUSED;
 use link::words::clash;
 use link::words::class_in;
@@ -25,7 +26,7 @@ pub fn is_sound(words: &[u32], count: usize) -> bool
 fn in_order(words: &[u32], count: usize) -> bool
     ensures { λ r. ⌜ r ≡ inOrder nothing (linksIn count (now (words .entry))) ⌝ }
 {
-    let mut last = UNUSED;
+    let mut last = NO_ADDRESS;
     let mut last_class = class_in(last);
     let mut wrong: u32 = 0;
     let end = smaller(count, words.len());
