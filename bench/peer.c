@@ -24,7 +24,7 @@ enum { AS_IT_IS, OUTSIDE, WRONG_CELLS, BAD_BLINDS, BAD_LINKS };
 enum { FRONT = 1, SHARED = 1000, BEFORE = 100, AFTER = 2000, END = 65535, REST = 500 };
 
 static const struct parameters asked = {
-    .mudt = 600000, .sst = 200, .rpt = 500, .rwa = 1, .rra = 1, .rfa = 0
+    .mudt = 600000, .sst = 200, .rpt = 500, .rwa = 1, .rra = 1, .rfa = 3
 };
 
 struct workload {

@@ -1,5 +1,5 @@
-/* The numbered cases of document 01 by the peer's calls: one line for each,
-   name, tab, `same` or `differs`. */
+/* The numbered cases of document 01 by the peer's calls, W9 as K5 has it:
+   one line for each, name, tab, `same` or `differs`. */
 
 #include "panel.h"
 
@@ -189,15 +189,21 @@ static void w8(void)
     expect_report(0);
 }
 
-/* "FA 1: the flag is set, nothing else changes." */
+/* K5: "W9 now reads that FA 1 gives Hold." The flag is set and no other
+   field changes; a MUD after it is dropped. */
 static void w9(void)
 {
     begin();
-    struct blind before = *blind();
+    struct blind held = *blind();
+    held.frost = 1;
     send(FA, 1);
-    expect(blind()->frost == 1);
-    before.frost = 1;
-    expect(same_blind(blind(), &before));
+    expect(same_blind(blind(), &held));
+    expect(duty(blind()) == DUTY_HOLD);
+    expect_motor(NEITHER);
+    expect_report(512);
+    send(MUD, 1);
+    expect(same_blind(blind(), &held));
+    expect_report(512);
 }
 
 /* "running down under FO 3, WA 1: off, up waits. WA 0 in the same instant:

@@ -8,8 +8,9 @@
 
 /* ---- Parameters ------------------------------------------------------ */
 
+/* K5: "The default for RFA changes from ignore to stop." */
 const struct parameters default_parameters = {
-    .mudt = 60000, .sst = 200, .rpt = 500, .rwa = 1, .rra = 1, .rfa = 0
+    .mudt = 60000, .sst = 200, .rpt = 500, .rwa = 1, .rra = 1, .rfa = 3
 };
 
 /* "MUDT 1,000 to 600,000; SST 1 to 10,000, at most MUDT; RPT 100 to 10,000;
@@ -170,7 +171,7 @@ static enum duty duty_of_reaction(uint64_t reaction)
 /* "The first of wind, rain, frost that is on and whose reaction is not
    ignore gives the duty: Up, Down or Hold. Otherwise forced gives Up or
    Down. Otherwise the duty is Free." */
-static enum duty duty(const struct blind *b)
+enum duty duty(const struct blind *b)
 {
     if (b->wind && b->parameters.rwa != IGNORE)
         return duty_of_reaction(b->parameters.rwa);

@@ -108,6 +108,10 @@ struct inventory {
 extern const struct parameters default_parameters;
 struct blind fresh_blind(uint64_t terminal, struct parameters parameters);
 
+/* What the alarms and the forced input ask of a blind, for the cases to look
+   at. */
+enum duty duty(const struct blind *b);
+
 /* A panel without blinds and links. */
 struct panel empty_panel(void);
 

@@ -1,5 +1,5 @@
--- Document 01, "Cases by number": W1 to W12 as scripts of calls on the panel, with what is seen after them; `cases` is the one list. Beside
--- them R3, and the caretaker's story.
+-- Document 01, "Cases by number": W1 to W12 as scripts of calls on the panel, with what is seen after them; `cases` is the one list. W9 is
+-- read as K5 has it. Beside them R3, and the caretaker's story.
 -- Assumes nothing.
 use Prim.Native.Nat.{ℕ, _+_}
 use mathlib.Core.Bool.{Bool}
@@ -13,7 +13,7 @@ use Rattle.params.specs.Numbers.{numbersOf}
 use Rattle.demands.specs.Calls.{Call, telegram, timeStep, install, addLink, spliceIn}
 use Rattle.demands.specs.Runs.{motorSeen}
 use Rattle.demands.specs.Whole.{reseat}
-use Rattle.demands.specs.Looks.{Seen, Line, right, plain, look, refused, ends, changes, off, up, down, reports, resting, upWaits, fullLength, restedUp, pausing, frost, frostSet, standingAt, stands, both}
+use Rattle.demands.specs.Looks.{Seen, Line, right, plain, look, refused, ends, changes, nothing, off, up, down, reports, resting, upWaits, fullLength, restedUp, pausing, held, frostSet, standingAt, stands, both}
 
 -- ---- "Blind 5 at terminal 9, defaults, fresh, each kind on its own address": the address of a kind is one above it
 
@@ -80,9 +80,13 @@ w7 = fresh ++ (look (SAPBP 100) resting ∷ [])
 abbrev pub w8 : List Line
 w8 = fresh ++ (look (WA 1) upWaits ∷ look (MUD 1) upWaits ∷ look (WA 0) (both resting (reports 0)) ∷ [])
 
--- "FA 1: the flag is set, nothing else changes."
+-- K5: "W9 now reads that FA 1 gives Hold." The flag is set and no other field changes; the duty is Hold, so a MUD after it is dropped.
 abbrev pub w9 : List Line
-w9 = fresh ++ (changes (FA 1) (reseat 5 frostSet) (both frost (both off (reports noReport))) ∷ [])
+w9 =
+    fresh
+    ++ (changes (FA 1) (reseat 5 frostSet) (both held (both off (reports noReport)))
+    ∷ changes (MUD 1) nothing (both off (reports noReport))
+    ∷ [])
 
 -- "Running down under FO 3, WA 1: off, up waits. WA 0 in the same instant: down, full length."
 abbrev pub w10 : List Line

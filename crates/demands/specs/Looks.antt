@@ -1,6 +1,6 @@
 -- Scripts of calls on the panel, and what is looked at after them, for the cases of document 01. Assumes nothing.
 use Prim.Native.Nat.{ℕ, _-_}
-use mathlib.Core.Bool.{Bool, true, false, not, _&&_}
+use mathlib.Core.Bool.{Bool, true, false, _&&_}
 use mathlib.Core.List.{List, [], _∷_}
 use mathlib.Core.Option.{Option, none, some}
 use lib.ListN.{getD}
@@ -10,20 +10,19 @@ use Rattle.tags.specs.Tags.{places}
 use Rattle.heights.specs.declared.Direction.{Direction}
 use Rattle.runs.specs.declared.Last.{Last}
 use Rattle.runs.specs.Orders.{same}
-use Rattle.blind.specs.declared.Forced.{Forced}
 use Rattle.blind.specs.declared.Motion.{Motion}
 use Rattle.blind.specs.declared.Blind.{Blind}
 use Rattle.blind.specs.Fields.{withFlags}
-use Rattle.params.specs.Parameters.{defaults}
+use Rattle.duties.specs.declared.Duty.{Duty}
+use Rattle.duties.specs.Rulers.{dutyOf, sameDuty}
 use Rattle.answers.specs.Rules.{Result}
 use Rattle.panel.specs.Calls.{Cells, row}
 use Rattle.panel.specs.Panel.{Seat, Model}
 use Rattle.outputs.specs.Reports.{noReport}
 use Rattle.seats.specs.Untouched.{blindAt}
-use Rattle.params.specs.Numbers.{numbersOf}
 use Rattle.demands.specs.Calls.{Call, timeStep, does}
 use Rattle.demands.specs.Runs.{motorSeen}
-use Rattle.demands.specs.Whole.{sameList, samePanel}
+use Rattle.demands.specs.Whole.{samePanel}
 
 -- ---- scripts
 
@@ -68,6 +67,10 @@ ends dt early late =
 -- A call that is done and changes this and nothing else, with a look: in every field the panel is the one before it with the change.
 abbrev pub changes : Call → (Model → Model) → (Seen → Bool) → Line
 changes call change seen = record { call = call; seen = λ before r. done seen r && samePanel (r .leaves) (change before) }
+
+-- Of a call that changes nothing.
+abbrev pub nothing : Model → Model
+nothing m = m
 
 -- ---- what is looked at, of blind 5
 
@@ -115,16 +118,6 @@ lengthAt (Motion.Runs run) = run .length
 abbrev pub fullLength : Seen → Bool
 fullLength r = onBlind (λ b. eqb (lengthAt (b .motion)) 60000) (blindAt 5 (r .leaves))
 
-abbrev pub eitherLast : Last → Bool
-eitherLast Last.Either = true
-eitherLast Last.Up = false
-eitherLast Last.Down = false
-
-abbrev pub notForced : Forced → Bool
-notForced Forced.No = true
-notForced Forced.Up = false
-notForced Forced.Down = false
-
 abbrev pub restIs : ℕ → Motion → Bool
 restIs n (Motion.Off rest) = eqb rest n
 restIs n (Motion.Waits rest run) = false
@@ -143,18 +136,11 @@ restedUp r = onBlind (λ b. wentUp (b .last) && restIs 0 (b .motion)) (blindAt 5
 abbrev pub pausing : Seen → Bool
 pausing r = onBlind (λ b. restIs 500 (b .motion)) (blindAt 5 (r .leaves))
 
--- the frost flag is set, and every other field is as a fresh blind with the default set has it
-abbrev pub frostAlone : Blind → Bool
-frostAlone b =
-    b .flags .frost
-    && (not (b .flags .wind) && (not (b .flags .rain) && notForced (b .flags .forced)))
-    && (eqb (b .place .position) 0 && (not (b .place .valid) && (eitherLast (b .last) && restIs 500 (b .motion))))
-    && sameList eqb (numbersOf (b .params)) (numbersOf defaults)
+-- its duty is Hold
+abbrev pub held : Seen → Bool
+held r = onBlind (λ b. sameDuty (dutyOf b) Duty.Hold) (blindAt 5 (r .leaves))
 
-abbrev pub frost : Seen → Bool
-frost r = onBlind frostAlone (blindAt 5 (r .leaves))
-
--- "the flag is set"
+-- the frost flag is set
 abbrev pub frostSet : Seat → Seat
 frostSet seat =
     record {

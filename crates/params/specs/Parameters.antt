@@ -6,9 +6,9 @@ use lib.Dec.{leb}
 use Rattle.params.specs.declared.Params.{Params}
 use Rattle.params.specs.declared.Reaction.{Reaction}
 
--- The column "default".
+-- The column "default". K5: "The default for RFA changes from ignore to stop."
 unfoldable pub defaults : Params
-defaults = record { mudt = 60000; sst = 200; rpt = 500; rwa = Reaction.Up; rra = Reaction.Up; rfa = Reaction.Ignore }
+defaults = record { mudt = 60000; sst = 200; rpt = 500; rwa = Reaction.Up; rra = Reaction.Up; rfa = Reaction.Stop }
 
 -- The column "range", to be read. The reactions are in range by their kind.
 pub record SoundParams (p : Params) : Type 0 where

@@ -13,7 +13,7 @@ impl Params {
         rpt: 500,
         rwa: Reaction::Up,
         rra: Reaction::Up,
-        rfa: Reaction::Ignore,
+        rfa: Reaction::Stop,
     };
 
     pub fn default_set() -> Params
