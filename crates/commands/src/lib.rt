@@ -1,5 +1,5 @@
-// The command language of the bench, one command a line: a line is read as a call of the panel, as something to pass over,
-// or as a mistake. Nothing is carried out here.
+// The command language of the bench, one command a line: a line is read as a command, as something to pass over, or as a
+// mistake. Nothing is carried out here.
 pub mod lines;
 
 use params::Asked;
@@ -24,6 +24,7 @@ pub enum Command {
     Edit(Edit),
     Tel(u64, u64),
     Time(u64),
+    Percent(u64),
 }
 
 // What can be wrong with a line.

@@ -104,6 +104,7 @@ fn call(name: Name, given: Arguments) -> Command
         Name::Out => Command::Edit(Edit::Out(a, b)),
         Name::Tel => Command::Tel(a, b),
         Name::Time => Command::Time(a),
+        Name::Percent => Command::Percent(a),
     }
 }
 

@@ -36,7 +36,7 @@ use Rattle.conduct.proofs.Undisturbed.{undisturbed, seen}
 
 -- ---- an order's run is on
 
-ordered-on : (run : Run) (b : Blind) → Engaged run (ordered run b .motion)
+pub ordered-on : (run : Run) (b : Blind) → Engaged run (ordered run b .motion)
 unfolding ordered orderedAt orderedOff orderedRunning started
 ordered-on run b = go (b .motion)
   where
@@ -88,17 +88,16 @@ towards-reaches far (Way.Go d n) b l s = order-reaches (runTo d n) b _ s refl (l
 -- ---- SAPBP
 
 module _ (v : ℕ) (b : Blind) (above : 0 < v) (below : v < 255) (free : isFree (dutyOf b) ≡ true) (known : b .place .valid ≡ true) where
-  way : Way
+  abbrev way : Way
   way = wayTo (b .params) (target v (b .params)) (b .place)
 
-  asked : heeded (Input.Command (Command.Position v)) b ≡ towards way b
-  unfolding heeded commanded acted sapbp aimed aimedBetween followed way
+  pub asked : heeded (Input.Command (Command.Position v)) b ≡ towards (wayTo (b .params) (target v (b .params)) (b .place)) b
+  unfolding heeded commanded acted sapbp aimed aimedBetween followed
   asked =
       rw (free, ne-eqb v 0 (λ e. omega arith), ne-eqb v 255 (λ e. omega arith), known)
 
   -- A run to v that is not disturbed ends at floor(v · MUDT / 255).
   pub run-to-ends : Sound b → Reaches (withPosition (target v (b .params)) (b .place)) (heeded (Input.Command (Command.Position v)) b)
-  unfolding way
   run-to-ends s =
       let command : Input = Input.Command (Command.Position v) in
       let sound-after : Sound (heeded command b) = heeded-sound command b (omega arith) s in

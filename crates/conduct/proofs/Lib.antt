@@ -12,3 +12,4 @@ pub mod Phases
 pub mod Duties
 pub mod Obeys
 pub mod Weaker
+pub mod Finished

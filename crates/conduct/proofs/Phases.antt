@@ -3,14 +3,15 @@
 -- Assumes nothing.
 use Prim.Native.Nat.{ℕ, zero, suc, _+_, _-_, _≤_, _<_}
 use native.Mathlib.Omega.{arith}
-use mathlib.Core.Path.{_≡_, refl, sym, ap, _∙_}
-use mathlib.Core.Bool.{Bool, true, false}
+use mathlib.Core.Path.{_≡_, refl, sym, ap, _∙_, subst}
+use mathlib.Core.Bool.{true, false, cond, _&&_}
 use mathlib.Core.List.{List, [], _∷_}
-use lib.Dec.{ltb}
-use borrow.Author.Tests.{ltb-true, ltb-false, lt-ltb}
-use Rattle.laws.proofs.Choices.{never-both}
+use lib.Dec.{ltb, leb}
+use borrow.Author.Tests.{lt-ltb, le-ltb, le-leb, lt-leb}
+use Rattle.laws.proofs.Choices.{never-both, below-or}
+use Rattle.params.specs.declared.Params.{Params}
 use Rattle.heights.specs.declared.Place.{Place}
-use Rattle.heights.specs.Heights.{endOf}
+use Rattle.heights.specs.Heights.{endOf, told}
 use Rattle.runs.specs.declared.Goal.{Goal}
 use Rattle.runs.specs.declared.Run.{Run}
 use Rattle.runs.specs.Orders.{lastOf}
@@ -23,20 +24,12 @@ use Rattle.blind.specs.Millisecond.{arrived, millisecond}
 use Rattle.milliseconds.specs.Milliseconds.{milliseconds}
 use Rattle.milliseconds.proofs.Cutting.{one-first, cut}
 use Rattle.milliseconds.proofs.AtOnce.{resting, waiting, wait-over, movedBy, running}
-use Rattle.outputs.specs.Reports.{activeAt, active, busyAt, busy}
+use Rattle.outputs.specs.Reports.{activeAt, active, busyAt, busy, noReport, report}
 use Rattle.sound_blind.specs.Sound.{SoundMotion, Sound}
 use Rattle.conduct.specs.Courses.{Event, passes, after, duration}
 use Rattle.conduct.specs.Undisturbed.{Undisturbed, ended, passed}
 use Rattle.conduct.specs.Ends.{Engaged, waits, runs, untilEnd, Reaches}
 use Rattle.conduct.proofs.Undisturbed.{ends}
-
--- below a number, or from it on
-pub below-or : {P : Type 0} (k n : ℕ) → (k < n → P) → (n ≤ k → P) → P
-below-or {P} k n below from = go (ltb k n) refl
-  where
-    go : (t : Bool) → ltb k n ≡ t → P
-    go true e = below (ltb-true k n e)
-    go false e = from (ltb-false k n e)
 
 -- ---- a waiting order
 
@@ -143,6 +136,61 @@ module _ (run : Run) (b : Blind) (s : Sound b) (on : Engaged run (b .motion)) wh
       ap (λ (j : ℕ). busy (milliseconds j b)) split
       ∙ ap busy (rests-then (k - untilEnd (b .motion)))
       ∙ lt-ltb 0 (b .params .rpt - (k - untilEnd (b .motion))) left)
+
+-- ---- every sound blind, at rest or not
+
+module _ (b : Blind) (s : Sound b) where
+  -- by its motion: nothing runs or waits, or a run is on
+  by-motion : {P : Type 0} → ((rest : ℕ) → b .motion ≡ Motion.Off rest → P) → ((run : Run) → Engaged run (b .motion) → P) → P
+  by-motion {P} off on = go (b .motion) refl off on
+    where
+      go : (motion : Motion) → b .motion ≡ motion → ((rest : ℕ) → b .motion ≡ Motion.Off rest → P) → ((run : Run) → Engaged run (b .motion) → P) → P
+      go (Motion.Off rest) e off on = off rest e
+      go (Motion.Waits rest run) e off on = on run (subst (Engaged run) (sym e) (waits rest))
+      go (Motion.Runs run) e off on = on run (subst (Engaged run) (sym e) runs)
+
+  still : (rest k : ℕ) → b .motion ≡ Motion.Off rest → milliseconds k b ≡ withMotion (Motion.Off (rest - k)) b
+  still rest k e = ap (λ (motion : Motion). milliseconds k (withMotion motion b)) e ∙ resting k rest b
+
+  -- it runs or waits exactly until its time is over
+  pub active-is : (k : ℕ) → active (milliseconds k b) ≡ ltb k (untilEnd (b .motion))
+  unfolding active
+  active-is k =
+      by-motion
+      (λ rest e. ap active (still rest k e) ∙ sym (le-ltb k (untilEnd (b .motion)) (omega (arith, ap untilEnd e))))
+      (λ run on.
+      below-or k (untilEnd (b .motion))
+      (λ low. active-until run b s on k low ∙ sym (lt-ltb k (untilEnd (b .motion)) low))
+      (λ high. over-then run b s on k high ∙ sym (le-ltb k (untilEnd (b .motion)) high)))
+
+  -- from then on one and the same is told of it
+  pub tells-same : (k : ℕ) → untilEnd (b .motion) ≤ k
+      → told (milliseconds k b .params) (milliseconds k b .place) ≡ told (b .params) (milliseconds (untilEnd (b .motion)) b .place)
+  tells-same k h =
+      by-motion
+      (λ rest e.
+      ap tellsOf (still rest k e) ∙ ap (λ (x : Blind). told (b .params) (x .place)) (sym (still rest (untilEnd (b .motion)) e)))
+      (λ run on.
+      let split : k ≡ untilEnd (b .motion) + (k - untilEnd (b .motion)) = omega arith in
+      ap (λ (j : ℕ). tellsOf (milliseconds j b)) split
+      ∙ ap tellsOf (rests-then run b s on (k - untilEnd (b .motion)))
+      ∙ ap (λ (p : Params). told p (milliseconds (untilEnd (b .motion)) b .place)) (stood-params run b s on))
+    where
+      tellsOf : Blind → ℕ
+      tellsOf x = told (x .params) (x .place)
+
+  -- what a stretch of its milliseconds reports
+  pub stretch-reports : (t u : ℕ) → t ≤ u
+      → report (milliseconds t b) (milliseconds u b)
+      ≡ cond (ltb t (untilEnd (b .motion)) && leb (untilEnd (b .motion)) u) (told (b .params) (milliseconds (untilEnd (b .motion)) b .place)) noReport
+  unfolding report
+  stretch-reports t u h =
+      below-or u (untilEnd (b .motion))
+      (λ low.
+      let early : t < untilEnd (b .motion) = omega arith in
+      rw (active-is t, active-is u, lt-ltb t (untilEnd (b .motion)) early, lt-ltb u (untilEnd (b .motion)) low, lt-leb (untilEnd (b .motion)) u low))
+      (λ high.
+      rw (active-is t, active-is u, le-ltb u (untilEnd (b .motion)) high, le-leb (untilEnd (b .motion)) u high, tells-same u high))
 
 -- ---- a course of milliseconds alone
 

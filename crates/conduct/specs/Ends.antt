@@ -2,11 +2,14 @@
 -- Assumes nothing.
 use Prim.Native.Nat.{ℕ, _+_}
 use mathlib.Core.Path.{_≡_}
-use mathlib.Core.List.{List}
+use mathlib.Core.Bool.{cond, _&&_}
+use mathlib.Core.List.{List, _++_}
+use lib.Dec.{ltb, leb}
 use Rattle.heights.specs.declared.Place.{Place}
 use Rattle.runs.specs.declared.Run.{Run}
 use Rattle.blind.specs.declared.Motion.{Motion}
 use Rattle.blind.specs.declared.Blind.{Blind}
+use Rattle.outputs.specs.Reports.{noReport, report}
 use Rattle.conduct.specs.Courses.{Event, after, duration}
 use Rattle.conduct.specs.Undisturbed.{Undisturbed}
 
@@ -30,3 +33,11 @@ Reaches place b =
 pub record Ended (place : Place) (b b′ : Blind) : Type 0 where
   pub there : b′ .place ≡ place
   pub rests : b′ .motion ≡ Motion.Off (b .params .rpt)
+
+-- Of a course that does not disturb a blind, cut anywhere: the piece in which the motor goes off again reports a number, and every piece
+-- before and after it reports nothing.
+abbrev pub ReportsOnce : ℕ → Blind → Type 0
+ReportsOnce n b =
+    (before piece : List Event) → Undisturbed (before ++ piece) b
+    → report (after before b) (after (before ++ piece) b)
+    ≡ cond (ltb (duration before) (untilEnd (b .motion)) && leb (untilEnd (b .motion)) (duration (before ++ piece))) n noReport

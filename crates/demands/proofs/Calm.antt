@@ -1,9 +1,8 @@
--- A run of calls in which no accepted telegram disturbs a busy blind is its milliseconds alone, apart from the flags: nobody can
--- remove or rewrite a blind that is busy, nor install another at its tag, and an edit of its links leaves it.
+-- A run of calls in which no accepted telegram disturbs a blind and no accepted edit changes it is its milliseconds alone, apart from the
+-- flags: nobody can install another at its tag, and an edit of its links leaves it. While it is busy nobody can remove or rewrite it.
 -- Assumes nothing.
 use Prim.Native.Nat.{ℕ, zero, suc, _+_, _-_, _≤_, _<_}
 use native.Mathlib.Nat.{add-zero, sub-zero, suc-sub-suc}
-use native.Mathlib.Decide.{ℕ-discrete}
 use native.Mathlib.Omega.{arith}
 use mathlib.Core.Path.{_≡_, refl, sym, ap, _∙_, subst}
 use mathlib.Core.Bool.{Bool, true, false, cond}
@@ -12,8 +11,8 @@ use mathlib.Core.Option.{some}
 use lib.ListN.{length, getD, length-append}
 use lib.Dec.{eqb}
 use borrow.Author.Tests.{eqb-true}
-use Rattle.laws.proofs.Choices.{never-both}
-use Rattle.answers.proofs.Rules.{leaves-has}
+use Rattle.laws.proofs.Choices.{never-both, below-or, same-or-other}
+use Rattle.answers.proofs.Rules.{answer-is, leaves-has}
 use Rattle.blind.specs.declared.Flags.{Flags}
 use Rattle.blind.specs.declared.Blind.{Blind}
 use Rattle.blind.specs.Fields.{withFlags}
@@ -22,7 +21,6 @@ use Rattle.milliseconds.specs.Milliseconds.{milliseconds}
 use Rattle.milliseconds.proofs.Cutting.{one-first, cut}
 use Rattle.outputs.specs.Reports.{motorOf, busy}
 use Rattle.conduct.proofs.Undisturbed.{milliseconds-flags}
-use Rattle.conduct.proofs.Phases.{below-or}
 use Rattle.panel.specs.Panel.{Model, presentIn, isThere}
 use Rattle.panel.specs.Sound.{Fine}
 use Rattle.panel.specs.Calls.{Cells}
@@ -38,13 +36,13 @@ use Rattle.writes.proofs.Passed.{writable}
 use Rattle.demands.specs.Calls.{Call, telegram, timeStep, strip, install, removeBlind, writeParams, addLink, removeLink, spliceIn, spliceOut, inventory, does}
 use Rattle.demands.specs.Runs.{Turn, Run, Each, after, gives, lasts, lasting, duration}
 use Rattle.demands.specs.Demand2.{Moment, moments, trace}
-use Rattle.demands.specs.Calm.{Calm, Within, motorIn}
+use Rattle.demands.specs.Calm.{Calm, Changes, removes, writes, Unedited, Within, motorIn}
 use Rattle.demands.proofs.Seats.{seat-of}
 use Rattle.demands.proofs.Soundness.{kept-fine}
 use Rattle.demands.proofs.Alike.{spared, add-blind, remove-link-blind}
 use Rattle.demands.proofs.BlindSeen.{telegram-seen, step-seen}
 use Rattle.demands.proofs.Pauses.{momentIn, momentsIn}
-use Rattle.demands.proofs.Demand2.{moments-seen}
+use Rattle.demands.proofs.Demand2.{moments-seen, refused-leaves}
 use Rattle.demands.proofs.Heard.{heard-unheeded}
 
 -- ---- telegrams that do not disturb
@@ -76,11 +74,14 @@ unfolding lasting
 timeless call cells m none =
     ap (λ (k : ℕ). cond (eqb (does call m cells .answer) 0) k 0) none ∙ no-time (eqb (does call m cells .answer) 0)
 
--- ---- edits that give the tag of a busy blind
+-- ---- edits that give the tag of a blind
 
 module _ (tag : ℕ) (b : Blind) (m : Model) (cells : Cells) (here : blindAt tag m ≡ some b) where
   present : isThere (m .seats tag) ≡ true
   present = let (seat, there, is) = seat-of (m .seats tag) b here in ap isThere there
+
+  seat-busy : busy b ≡ true → isBusy (m .seats tag) ≡ true
+  seat-busy is-busy = let (seat, there, is) = seat-of (m .seats tag) b here in ap isBusy there ∙ ap busy is ∙ is-busy
 
   install-refused : (terminal : ℕ) (asked : List ℕ) → blindAt tag (does (install tag terminal asked) m cells .leaves) ≡ blindAt tag m
   unfolding presentIn
@@ -88,27 +89,14 @@ module _ (tag : ℕ) (b : Blind) (m : Model) (cells : Cells) (here : blindAt tag
       leaves-has (installRule tag terminal asked) m cells (λ (n : Model). blindAt tag n ≡ blindAt tag m) refl
       (λ passed. never-both (isThere (m .seats tag)) present (installable tag terminal asked m cells passed .new))
 
-  module _ (is-busy : busy b ≡ true) where
-    seat-busy : isBusy (m .seats tag) ≡ true
-    seat-busy = let (seat, there, is) = seat-of (m .seats tag) b here in ap isBusy there ∙ ap busy is ∙ is-busy
-
-    remove-refused : blindAt tag (does (removeBlind tag) m cells .leaves) ≡ blindAt tag m
-    remove-refused =
-        leaves-has (removeRule tag) m cells (λ (n : Model). blindAt tag n ≡ blindAt tag m) refl
-        (λ passed. never-both (isBusy (m .seats tag)) seat-busy (removable tag m cells passed .named .idle))
-
-    write-refused : (asked : List ℕ) → blindAt tag (does (writeParams tag asked) m cells .leaves) ≡ blindAt tag m
-    write-refused asked =
-        leaves-has (writeRule tag asked) m cells (λ (n : Model). blindAt tag n ≡ blindAt tag m) refl
-        (λ passed. never-both (isBusy (m .seats tag)) seat-busy (writable tag m cells asked passed .named .idle))
-
--- a call that gives a tag, which may or may not be this one
-named-or-not : (P : ℕ → Type 0) (tag other : ℕ) → P tag → ((tag ≡ other → ⊥) → P other) → P other
-named-or-not P tag other same apart = go (ℕ-discrete tag other)
-  where
-    go : Dec (tag ≡ other) → P other
-    go (yes e) = subst P e same
-    go (no h) = apart h
+  -- a busy blind is neither removed nor written anew
+  busy-unedited : busy b ≡ true → (call : Call) → Unedited tag (record { call = call; cells = cells }) m
+  busy-unedited is-busy call removes done =
+      never-both (isBusy (m .seats tag)) (seat-busy is-busy)
+      (removable tag m cells (sym (answer-is (removeRule tag) m cells) ∙ done) .named .idle)
+  busy-unedited is-busy call (writes {asked}) done =
+      never-both (isBusy (m .seats tag)) (seat-busy is-busy)
+      (writable tag m cells asked (sym (answer-is (writeRule tag asked) m cells) ∙ done) .named .idle)
 
 -- ---- one call
 
@@ -118,13 +106,14 @@ pub record Apart (tag : ℕ) (b : Blind) (m : Model) : Type 0 where
   pub flags : Flags
   pub blind : blindAt tag m ≡ some (withFlags flags b)
 
-module _ (tag : ℕ) (b : Blind) (m : Model) (cells : Cells) (is-busy : busy b ≡ true) (a : Apart tag b m) where
+-- a panel with the blind as it is, none of its milliseconds gone
+pub at-first : (tag : ℕ) (b : Blind) (m : Model) → Fine m → blindAt tag m ≡ some b → Apart tag (milliseconds 0 b) m
+unfolding milliseconds
+at-first tag b m fine here = record { fine = fine; flags = b .flags; blind = here }
+
+module _ (tag : ℕ) (b : Blind) (m : Model) (cells : Cells) (a : Apart tag b m) where
   now : Blind
   now = withFlags (a .flags) b
-
-  now-busy : busy now ≡ true
-  unfolding now busy
-  now-busy = is-busy
 
   -- a call that leaves the blind and lets no time pass
   stays : (call : Call) → lasts call ≡ 0 → blindAt tag (does call m cells .leaves) ≡ blindAt tag m
@@ -164,29 +153,34 @@ module _ (tag : ℕ) (b : Blind) (m : Model) (cells : Cells) (is-busy : busy b �
       go false = refl
 
   -- the milliseconds of a call pass, and nothing else happens to the blind but for its flags
-  pub call-passes : (call : Call) → Calm tag (record { call = call; cells = cells }) m
+  pub call-passes : (call : Call) → Calm tag (record { call = call; cells = cells }) m → Unedited tag (record { call = call; cells = cells }) m
       → Apart tag (milliseconds (lasting (record { call = call; cells = cells }) m) b) (does call m cells .leaves)
   unfolding now
-  call-passes (telegram address value) calm = told address value calm
-  call-passes (timeStep dt) calm = stepped dt
-  call-passes strip calm = stays strip refl (spared tag strip m cells tt .blind)
-  call-passes (install other terminal asked) calm =
+  call-passes (telegram address value) calm left = told address value calm
+  call-passes (timeStep dt) calm left = stepped dt
+  call-passes strip calm left = stays strip refl (spared tag strip m cells tt .blind)
+  call-passes (install other terminal asked) calm left =
       stays (install other terminal asked) refl
-      (named-or-not (λ (t : ℕ). blindAt tag (does (install t terminal asked) m cells .leaves) ≡ blindAt tag m) tag other
-      (install-refused tag now m cells (a .blind) terminal asked) (λ apart. spared tag (install other terminal asked) m cells apart .blind))
-  call-passes (removeBlind other) calm =
+      (same-or-other tag other
+      (λ same.
+      subst (λ (t : ℕ). blindAt tag (does (install t terminal asked) m cells .leaves) ≡ blindAt tag m) same
+      (install-refused tag now m cells (a .blind) terminal asked))
+      (λ apart. spared tag (install other terminal asked) m cells apart .blind))
+  call-passes (removeBlind other) calm left =
       stays (removeBlind other) refl
-      (named-or-not (λ (t : ℕ). blindAt tag (does (removeBlind t) m cells .leaves) ≡ blindAt tag m) tag other
-      (remove-refused tag now m cells (a .blind) now-busy) (λ apart. spared tag (removeBlind other) m cells apart .blind))
-  call-passes (writeParams other asked) calm =
+      (same-or-other tag other
+      (λ same. refused-leaves tag m cells (removeBlind other) (left (subst (λ (t : ℕ). Changes tag (removeBlind t)) same removes)))
+      (λ apart. spared tag (removeBlind other) m cells apart .blind))
+  call-passes (writeParams other asked) calm left =
       stays (writeParams other asked) refl
-      (named-or-not (λ (t : ℕ). blindAt tag (does (writeParams t asked) m cells .leaves) ≡ blindAt tag m) tag other
-      (write-refused tag now m cells (a .blind) now-busy asked) (λ apart. spared tag (writeParams other asked) m cells apart .blind))
-  call-passes (addLink link) calm = stays (addLink link) refl (add-blind tag m cells link)
-  call-passes (removeLink link) calm = stays (removeLink link) refl (remove-link-blind tag m cells link)
-  call-passes (spliceIn t n) calm = stays (spliceIn t n) refl (spared tag (spliceIn t n) m cells tt .blind)
-  call-passes (spliceOut t n) calm = stays (spliceOut t n) refl (spared tag (spliceOut t n) m cells tt .blind)
-  call-passes inventory calm = stays inventory refl (spared tag inventory m cells tt .blind)
+      (same-or-other tag other
+      (λ same. refused-leaves tag m cells (writeParams other asked) (left (subst (λ (t : ℕ). Changes tag (writeParams t asked)) same writes)))
+      (λ apart. spared tag (writeParams other asked) m cells apart .blind))
+  call-passes (addLink link) calm left = stays (addLink link) refl (add-blind tag m cells link)
+  call-passes (removeLink link) calm left = stays (removeLink link) refl (remove-link-blind tag m cells link)
+  call-passes (spliceIn t n) calm left = stays (spliceIn t n) refl (spared tag (spliceIn t n) m cells tt .blind)
+  call-passes (spliceOut t n) calm left = stays (spliceOut t n) refl (spared tag (spliceOut t n) m cells tt .blind)
+  call-passes inventory calm left = stays inventory refl (spared tag inventory m cells tt .blind)
 
 -- ---- the milliseconds of a trace
 
@@ -222,31 +216,51 @@ short-within n (turn ∷ run) m h =
     (omega arith, short-within (n - lasting turn m) run (gives turn m .leaves) (omega arith))
 
 -- after t milliseconds, and j more
-pub within-later : (n t j : ℕ) (run : Run) (m : Model) → Within (n - t - j) run m → Within (n - (t + j)) run m
+within-later : (n t j : ℕ) (run : Run) (m : Model) → Within (n - t - j) run m → Within (n - (t + j)) run m
 within-later n t j run m w = let same : n - t - j ≡ n - (t + j) = omega arith in subst (λ (k : ℕ). Within k run m) same w
+
+-- ---- a whole run
+
+module _ (tag : ℕ) (b : Blind) where
+  pub turn-passes : (turn : Turn) (t : ℕ) (m : Model) → Apart tag (milliseconds t b) m → Calm tag turn m → Unedited tag turn m
+      → Apart tag (milliseconds (t + lasting turn m) b) (gives turn m .leaves)
+  turn-passes turn t m a calm left =
+      subst (λ (x : Blind). Apart tag x (gives turn m .leaves)) (sym (cut t (lasting turn m) b))
+      (call-passes tag (milliseconds t b) m (turn .cells) a (turn .call) calm left)
+
+  -- what is left of the blind: its milliseconds passed
+  pub calm-passes : (run : Run) (t : ℕ) (m : Model) → Apart tag (milliseconds t b) m → Each (Calm tag) run m → Each (Unedited tag) run m
+      → Apart tag (milliseconds (t + duration run m) b) (after run m)
+  unfolding after duration
+  calm-passes [] t m a calm left = subst (λ (k : ℕ). Apart tag (milliseconds k b) m) (sym (add-zero t)) a
+  calm-passes (turn ∷ run) t m a calm left =
+      let next = gives turn m .leaves in
+      let j = lasting turn m in
+      let d = duration run next in
+      let together : t + j + d ≡ t + (j + d) = omega arith in
+      subst (λ (k : ℕ). Apart tag (milliseconds k b) (after run next)) together
+      (calm-passes run (t + j) next (turn-passes turn t m a (calm .0) (left .0)) (calm .1) (left .1))
 
 -- ---- a whole run, on a blind that is busy for n milliseconds
 
 module _ (tag n : ℕ) (b : Blind) (busy-until : (k : ℕ) → k < n → busy (milliseconds k b) ≡ true) where
-  pub turn-passes : (turn : Turn) (t : ℕ) (m : Model) → t < n → Apart tag (milliseconds t b) m → Calm tag turn m
-      → Apart tag (milliseconds (t + lasting turn m) b) (gives turn m .leaves)
-  turn-passes turn t m h a calm =
-      subst (λ (x : Blind). Apart tag x (gives turn m .leaves)) (sym (cut t (lasting turn m) b))
-      (call-passes tag (milliseconds t b) m (turn .cells) (busy-until t h) a (turn .call) calm)
+  turn-unedited : (turn : Turn) (t : ℕ) (m : Model) → t < n → Apart tag (milliseconds t b) m → Unedited tag turn m
+  unfolding busy
+  turn-unedited turn t m h a = busy-unedited tag (withFlags (a .flags) (milliseconds t b)) m (turn .cells) (a .blind) (still-busy (a .flags)) (turn .call)
+    where
+      still-busy : (flags : Flags) → busy (withFlags flags (milliseconds t b)) ≡ true
+      still-busy flags = busy-until t h
 
-  -- what is left of the blind: its milliseconds passed
-  pub calm-passes : (run : Run) (t : ℕ) (m : Model) → Apart tag (milliseconds t b) m → Each (Calm tag) run m → Within (n - t) run m
-      → Apart tag (milliseconds (t + duration run m) b) (after run m)
-  unfolding after duration
-  calm-passes [] t m a calm w = subst (λ (k : ℕ). Apart tag (milliseconds k b) m) (sym (add-zero t)) a
-  calm-passes (turn ∷ run) t m a calm w =
+  -- no edit is accepted that would change it
+  pub within-unedited : (run : Run) (t : ℕ) (m : Model) → Apart tag (milliseconds t b) m → Each (Calm tag) run m → Within (n - t) run m
+      → Each (Unedited tag) run m
+  within-unedited [] t m a calm w = tt
+  within-unedited (turn ∷ run) t m a calm w =
       let next = gives turn m .leaves in
       let j = lasting turn m in
-      let d = duration run next in
       let begun : 0 < n - t = w .0 in
-      let together : t + j + d ≡ t + (j + d) = omega arith in
-      subst (λ (k : ℕ). Apart tag (milliseconds k b) (after run next)) together
-      (calm-passes run (t + j) next (turn-passes turn t m (omega arith) a (calm .0)) (calm .1) (within-later n t j run next (w .1)))
+      let unedited = turn-unedited turn t m (omega arith) a in
+      (unedited, within-unedited run (t + j) next (turn-passes tag b turn t m a (calm .0) unedited) (calm .1) (within-later n t j run next (w .1)))
 
   -- what each millisecond finds, those of a step that runs past the n among them
   pub calm-trace : (run : Run) (t : ℕ) (m : Model) → Apart tag (milliseconds t b) m → Each (Calm tag) run m
@@ -270,5 +284,5 @@ module _ (tag n : ℕ) (b : Blind) (busy-until : (k : ℕ) → k < n → busy (m
       (λ high.
       let again : t + j + (k - j) ≡ t + k = omega arith in
       ap (λ (y : Moment). y .motor) (moments-later j x rest k high)
-      ∙ calm-trace run (t + j) (gives turn m .leaves) (turn-passes turn t m (omega arith) a (calm .0)) (calm .1) (k - j) (omega arith) (omega arith)
+      ∙ calm-trace run (t + j) (gives turn m .leaves) (turn-passes tag b turn t m a (calm .0) (turn-unedited turn t m (omega arith) a)) (calm .1) (k - j) (omega arith) (omega arith)
       ∙ ap (λ (i : ℕ). motorOf (milliseconds i b)) again)

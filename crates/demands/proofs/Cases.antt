@@ -9,10 +9,11 @@ use Rattle.laws.specs.Fills.{tabulate}
 use Rattle.laws.specs.Every.{every, distinct, there}
 use Rattle.laws.specs.Any.{any}
 use Rattle.laws.specs.Kept.{kept}
+use Rattle.laws.specs.Nearest.{nearest}
 use Rattle.tags.specs.Tags.{howMany, lowestFree}
 use Rattle.params.specs.Numbers.{reactionOf, numbersOf, paramsOf, allowed}
 use Rattle.params.specs.Parameters.{defaults, within, timesInRange, inRange}
-use Rattle.heights.specs.Heights.{fullTime, bottom, nextPlace, endOf, target, wayTo, part, told}
+use Rattle.heights.specs.Heights.{fullTime, bottom, nextPlace, endOf, target, wayTo, raw, told}
 use Rattle.runs.specs.Millisecond.{shorter}
 use Rattle.blind.specs.Orders.{started, orderedOff, orderedRunning, orderedAt, ordered, motorOff, stoppedAt, stopped, freshOf}
 use Rattle.blind.specs.Millisecond.{moved, arrived, ran, waited, millisecondAt, millisecond}
@@ -50,7 +51,7 @@ use Rattle.demands.specs.Cases.{cases, allRight, r3, story}
 
 -- all scripts at once, so that what is computed stands once
 all-right : (allRight && (right r3 bare && right story bare)) ≡ true
-unfolding allRight cases right whole sameList samePanel first carried tabulate every distinct there any kept howMany lowestFree reactionOf numbersOf paramsOf allowed defaults within timesInRange inRange fullTime bottom nextPlace endOf target wayTo part told started orderedOff orderedRunning orderedAt ordered motorOff stoppedAt stopped freshOf moved arrived shorter ran waited millisecondAt millisecond milliseconds motorOf active busy report soundWait soundRunning soundMotion sound mud ssud towards aimedBetween aimed followed sapbp acted rulerOf dutyUnder dutyOf ruled flagged commanded heeded commandOf inputOf classOf linkInRange keyOf mayFollow linksTo addressClass inOrder tableSound isIn inserted isFirst movedAmong otherClass noLinkTo movedLinks presentIn reseated eachSeat seatsIn soundSeat soundSeats allNamed isSound checks lentChecks reports isOutside linkChecks served delivered afterTelegram telegramRule afterStep stepRule commandAt commands stripRule someSeat inUse busyFrom wouldPass installRule addRule offStrip shifted raised spliceInRule motorSeen
+unfolding allRight cases right whole sameList samePanel first carried tabulate every distinct there any kept howMany lowestFree reactionOf numbersOf paramsOf allowed defaults within timesInRange inRange fullTime bottom nextPlace endOf target wayTo raw nearest told started orderedOff orderedRunning orderedAt ordered motorOff stoppedAt stopped freshOf moved arrived shorter ran waited millisecondAt millisecond milliseconds motorOf active busy report soundWait soundRunning soundMotion sound mud ssud towards aimedBetween aimed followed sapbp acted rulerOf dutyUnder dutyOf ruled flagged commanded heeded commandOf inputOf classOf linkInRange keyOf mayFollow linksTo addressClass inOrder tableSound isIn inserted isFirst movedAmong otherClass noLinkTo movedLinks presentIn reseated eachSeat seatsIn soundSeat soundSeats allNamed isSound checks lentChecks reports isOutside linkChecks served delivered afterTelegram telegramRule afterStep stepRule commandAt commands stripRule someSeat inUse busyFrom wouldPass installRule addRule offStrip shifted raised spliceInRule motorSeen
 all-right = refl
 
 -- "W1 to W12 are shown to follow from the rules, as one list with one claim over it."

@@ -3,14 +3,13 @@
 -- Assumes nothing.
 use Prim.Native.Nat.{ℕ, zero, suc, _≤_, zero-le}
 use native.Mathlib.Nat.{le-refl, le-trans}
-use native.Mathlib.Decide.{ℕ-discrete}
 use mathlib.Core.Path.{_≡_, refl, sym, ap, ap₂, _∙_, subst}
 use mathlib.Core.Bool.{Bool, true, false, cond}
 use mathlib.Core.List.{List, [], _∷_, _++_}
 use mathlib.Core.Option.{Option, none, some, Option·map}
 use lib.Dec.{eqb}
 use borrow.Author.Tests.{eqb-true, ltb-false}
-use Rattle.laws.proofs.Choices.{cond-has, never-both}
+use Rattle.laws.proofs.Choices.{cond-has, never-both, same-or-other}
 use Rattle.answers.specs.Answers.{refusal}
 use Rattle.answers.specs.Rules.{Result}
 use Rattle.answers.proofs.Rules.{answer-is, refused, leaves-has}
@@ -116,6 +115,11 @@ as-it-was tag b m e = record { now = b; blind = e; owes = λ d. le-refl _ }
 left-alone : (tag : ℕ) (b : Blind) (m n : Model) → blindAt tag m ≡ some b → blindAt tag n ≡ blindAt tag m → Later tag b n
 left-alone tag b m n e same = as-it-was tag b n (same ∙ e)
 
+-- a call that is refused leaves the blind
+pub refused-leaves : (tag : ℕ) (m : Model) (cells : Cells) (call : Call) → (does call m cells .answer ≡ 0 → ⊥)
+    → blindAt tag (does call m cells .leaves) ≡ blindAt tag m
+refused-leaves tag m cells call h = ap (λ (r : Result Model Cells). blindAt tag (r .leaves)) (refused (ruleOf call) m cells h)
+
 -- a telegram that is done carries a byte
 accepted-byte : (address value : ℕ) (m : Model) (cells : Cells) → refusal (telegramRule address value .checks m cells) ≡ 0 → value ≤ 255
 unfolding telegramRule
@@ -172,15 +176,7 @@ module _ (tag : ℕ) (b : Blind) (m : Model) (cells : Cells) (here : blindAt tag
 
   -- a removal that is refused leaves it
   later-refused : (call : Call) → (does call m cells .answer ≡ 0 → ⊥) → Later tag b (does call m cells .leaves)
-  later-refused call h = left-alone tag b m _ here (ap (λ (r : Result Model Cells). blindAt tag (r .leaves)) (refused (ruleOf call) m cells h))
-
--- a call that gives a tag, which may or may not be this one
-same-or-spared : (tag other : ℕ) (b : Blind) (n : Model) → (tag ≡ other → Later tag b n) → ((tag ≡ other → ⊥) → Later tag b n) → Later tag b n
-same-or-spared tag other b n same apart = go (ℕ-discrete tag other)
-  where
-    go : Dec (tag ≡ other) → Later tag b n
-    go (yes e) = same e
-    go (no h) = apart h
+  later-refused call h = left-alone tag b m _ here (refused-leaves tag m cells call h)
 
 -- ---- a whole run
 
@@ -222,17 +218,17 @@ module _ (tag : ℕ) (b : Blind) (m : Model) (cells : Cells) (fine : Fine m) (he
   before-fair strip stays f = timeless strip refl (left-alone tag b m _ here (spared tag strip m cells tt .blind)) f
   before-fair (install other terminal asked) stays f =
       timeless (install other terminal asked) refl
-      (same-or-spared tag other b _
+      (same-or-other tag other
       (λ same. subst (λ (t : ℕ). Later tag b (does (install t terminal asked) m cells .leaves)) same (later-install tag b m cells here terminal asked))
       (λ apart. left-alone tag b m _ here (spared tag (install other terminal asked) m cells apart .blind))) f
   before-fair (removeBlind other) stays f =
       timeless (removeBlind other) refl
-      (same-or-spared tag other b _
+      (same-or-other tag other
       (λ same. later-refused tag b m cells here (removeBlind other) (stays (ap removeBlind (sym same))))
       (λ apart. left-alone tag b m _ here (spared tag (removeBlind other) m cells apart .blind))) f
   before-fair (writeParams other asked) stays f =
       timeless (writeParams other asked) refl
-      (same-or-spared tag other b _
+      (same-or-other tag other
       (λ same. subst (λ (t : ℕ). Later tag b (does (writeParams t asked) m cells .leaves)) same (later-write tag b m cells here asked))
       (λ apart. left-alone tag b m _ here (spared tag (writeParams other asked) m cells apart .blind))) f
   before-fair (addLink link) stays f = timeless (addLink link) refl (left-alone tag b m _ here (add-blind tag m cells link)) f

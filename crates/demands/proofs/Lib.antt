@@ -23,3 +23,4 @@ pub mod Heard
 pub mod Obeys
 pub mod Weaker
 pub mod Plain
+pub mod Finished

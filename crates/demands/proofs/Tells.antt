@@ -1,36 +1,39 @@
--- What the cells of a calm run tell of a blind whose run is on: what all its milliseconds at once would tell.
+-- What the cells of a calm run tell of a blind: what all its milliseconds at once would tell.
 -- Assumes nothing.
-use Prim.Native.Nat.{ℕ, _+_, _-_, _≤_, _<_}
-use native.Mathlib.Nat.{add-zero}
+use Prim.Native.Nat.{ℕ, _+_, _≤_, _<_, zero-le}
+use native.Mathlib.Nat.{add-zero, zero-add}
 use native.Mathlib.Omega.{arith}
 use mathlib.Core.Path.{_≡_, refl, sym, ap, ap₂, _∙_}
 use mathlib.Core.Bool.{Bool, true, false, cond, not, _&&_}
 use mathlib.Core.List.{List, [], _∷_, _++_}
-use lib.Dec.{eqb}
-use borrow.Author.Tests.{ne-eqb}
+use mathlib.Core.Option.{some}
+use lib.Dec.{eqb, ltb, leb}
+use borrow.Author.Tests.{ne-eqb, lt-ltb, le-ltb}
 use Rattle.laws.specs.Kept.{kept}
+use Rattle.laws.proofs.Choices.{below-or}
 use Rattle.heights.specs.Heights.{told}
-use Rattle.runs.specs.declared.Run as ofRuns
-use Rattle.params.specs.declared.Params.{Params}
+use Rattle.heights.proofs.Told.{told-most}
 use Rattle.blind.specs.declared.Flags.{Flags}
 use Rattle.blind.specs.declared.Blind.{Blind}
 use Rattle.blind.specs.Fields.{withFlags}
 use Rattle.milliseconds.specs.Milliseconds.{milliseconds}
 use Rattle.milliseconds.proofs.Cutting.{cut}
 use Rattle.outputs.specs.Reports.{active, noReport, report}
-use Rattle.outputs.proofs.Reports.{report-same}
+use Rattle.outputs.proofs.Reports.{report-same, report-flags}
 use Rattle.sound_blind.specs.Sound as ofBlind
-use Rattle.conduct.specs.Ends.{Engaged, untilEnd}
+use Rattle.conduct.specs.Ends.{untilEnd}
 use Rattle.conduct.proofs.Undisturbed.{milliseconds-flags}
-use Rattle.conduct.proofs.Phases.{below-or, stood-params, rests-then, active-until, over-then, busy-until}
+use Rattle.conduct.proofs.Phases.{active-is, tells-same, stretch-reports}
 use Rattle.panel.specs.Panel.{Model}
+use Rattle.panel.specs.Sound.{Fine}
 use Rattle.panel.specs.Calls.{Cells}
+use Rattle.seats.specs.Untouched.{blindAt}
 use Rattle.telegrams.specs.Locality.{reached, heardBy}
 use Rattle.demands.specs.Calls.{Call, telegram, timeStep, strip, install, removeBlind, writeParams, addLink, removeLink, spliceIn, spliceOut, inventory, does}
 use Rattle.demands.specs.Runs.{Run, Each, gives, lasting, duration, reportOf, reportIn, reportsOf}
-use Rattle.demands.specs.Calm.{Calm, Within}
+use Rattle.demands.specs.Calm.{Calm, Unedited, heard}
 use Rattle.demands.proofs.BlindSeen.{telegram-seen, step-seen}
-use Rattle.demands.proofs.Calm.{Apart, calm-telegram, timeless, within-later, turn-passes}
+use Rattle.demands.proofs.Calm.{Apart, at-first, calm-telegram, timeless, turn-passes}
 
 -- ---- cells that tell something
 
@@ -41,7 +44,7 @@ tells n = not (eqb n noReport)
 unfoldable pub said : List ℕ → List ℕ
 said = kept tells
 
-said-append : (xs ys : List ℕ) → said (xs ++ ys) ≡ said xs ++ said ys
+pub said-append : (xs ys : List ℕ) → said (xs ++ ys) ≡ said xs ++ said ys
 unfolding said kept
 said-append [] ys = refl
 said-append (x ∷ xs) ys = go (tells x) (said-append xs ys)
@@ -52,20 +55,19 @@ said-append (x ∷ xs) ys = go (tells x) (said-append xs ys)
     go false e = e
 
 -- a cell that is 512 tells nothing
-pub said-none : (n : ℕ) → n ≡ noReport → said (n ∷ []) ≡ []
+said-none : (n : ℕ) → n ≡ noReport → said (n ∷ []) ≡ []
 unfolding said kept tells
 said-none n e = ap (λ (k : ℕ). said (k ∷ [])) e
 
-pub said-one : (n : ℕ) → n < 512 → said (n ∷ []) ≡ n ∷ []
+said-one : (n : ℕ) → n < 512 → said (n ∷ []) ≡ n ∷ []
 unfolding said kept tells
 said-one n h = rw (ne-eqb n noReport (λ e. omega arith))
 
--- ---- one call
+pub said-if : (t : Bool) (n : ℕ) → n < 512 → said (cond t n noReport ∷ []) ≡ cond t (n ∷ []) []
+said-if true n h = said-one n h
+said-if false n h = said-none noReport refl
 
--- the flags are no part of a report
-report-flags : (f g : Flags) (x y : Blind) → report (withFlags f x) (withFlags g y) ≡ report x y
-unfolding report active
-report-flags f g x y = refl
+-- ---- one call
 
 module _ (tag : ℕ) (b : Blind) (m : Model) (cells : Cells) (a : Apart tag b m) where
   -- what a telegram that does not disturb reports: nothing, as no milliseconds would
@@ -116,18 +118,9 @@ module _ (tag : ℕ) (b : Blind) (m : Model) (cells : Cells) (a : Apart tag b m)
   call-tells (spliceOut t n) calm = sym (at-rest _ (timeless (spliceOut t n) cells m refl))
   call-tells inventory calm = sym (at-rest _ (timeless inventory cells m refl))
 
--- ---- a whole run, of a blind whose run is on
+-- ---- a whole run, of a sound blind
 
-module _ (tag : ℕ) (b : Blind) (s : ofBlind.Sound b) (order : ofRuns.Run) (on : Engaged order (b .motion)) where
-  -- from its end on a blind tells one and the same
-  pub tells-same : (k : ℕ) → untilEnd (b .motion) ≤ k
-      → told (milliseconds k b .params) (milliseconds k b .place) ≡ told (b .params) (milliseconds (untilEnd (b .motion)) b .place)
-  tells-same k h =
-      let split : k ≡ untilEnd (b .motion) + (k - untilEnd (b .motion)) = omega arith in
-      ap (λ (j : ℕ). told (milliseconds j b .params) (milliseconds j b .place)) split
-      ∙ ap (λ (x : Blind). told (x .params) (x .place)) (rests-then order b s on (k - untilEnd (b .motion)))
-      ∙ ap (λ (p : Params). told p (milliseconds (untilEnd (b .motion)) b .place)) (stood-params order b s on)
-
+module _ (tag : ℕ) (b : Blind) (s : ofBlind.Sound b) where
   -- a stretch of milliseconds tells what its two parts tell
   parts : (t u v : ℕ) → t ≤ u → u ≤ v
       → said (report (milliseconds t b) (milliseconds u b) ∷ []) ++ said (report (milliseconds u b) (milliseconds v b) ∷ [])
@@ -136,17 +129,17 @@ module _ (tag : ℕ) (b : Blind) (s : ofBlind.Sound b) (order : ofRuns.Run) (on 
   parts t u v h l =
       below-or u (untilEnd (b .motion))
       (λ low.
-      let then-on : active (milliseconds u b) ≡ true = active-until order b s on u low in
-      let first-on : active (milliseconds t b) ≡ true = active-until order b s on t (omega arith) in
+      let then-on : active (milliseconds u b) ≡ true = active-is b s u ∙ lt-ltb u (untilEnd (b .motion)) low in
+      let first-on : active (milliseconds t b) ≡ true = active-is b s t ∙ lt-ltb t (untilEnd (b .motion)) (omega arith) in
       ap (λ (xs : List ℕ). xs ++ said (report (milliseconds u b) (milliseconds v b) ∷ [])) (said-none _ (rw (then-on, first-on)))
       ∙ ap (λ (x : Bool). said (cond (x && not (active last)) (told (last .params) (last .place)) noReport ∷ [])) (then-on ∙ sym first-on))
       (λ high.
-      let then-off : active (milliseconds u b) ≡ false = over-then order b s on u high in
-      let last-off : active (milliseconds v b) ≡ false = over-then order b s on v (omega arith) in
+      let then-off : active (milliseconds u b) ≡ false = active-is b s u ∙ le-ltb u (untilEnd (b .motion)) high in
+      let last-off : active (milliseconds v b) ≡ false = active-is b s v ∙ le-ltb v (untilEnd (b .motion)) (omega arith) in
       ap (λ (xs : List ℕ). said (report (milliseconds t b) (milliseconds u b) ∷ []) ++ xs) (said-none _ (rw then-off))
       ∙ nothing-more (said (report (milliseconds t b) (milliseconds u b) ∷ []))
       ∙ ap₂ (λ (x : Bool) (n : ℕ). said (cond (active (milliseconds t b) && not x) n noReport ∷ []))
-      (then-off ∙ sym last-off) (tells-same u high ∙ sym (tells-same v (omega arith))))
+      (then-off ∙ sym last-off) (tells-same b s u high ∙ sym (tells-same b s v (omega arith))))
     where
       last : Blind
       last = milliseconds v b
@@ -156,23 +149,34 @@ module _ (tag : ℕ) (b : Blind) (s : ofBlind.Sound b) (order : ofRuns.Run) (on 
       nothing-more (x ∷ xs) = ap (λ (l : List ℕ). x ∷ l) (nothing-more xs)
 
   -- what a calm run tells is what its milliseconds at once would tell
-  pub run-tells : (run : Run) (t : ℕ) (m : Model) → Apart tag (milliseconds t b) m → Each (Calm tag) run m
-      → Within (untilEnd (b .motion) + b .params .rpt - t) run m
+  tells-from : (run : Run) (t : ℕ) (m : Model) → Apart tag (milliseconds t b) m → Each (Calm tag) run m → Each (Unedited tag) run m
       → said (reportsOf tag run m) ≡ said (report (milliseconds t b) (milliseconds (t + duration run m) b) ∷ [])
   unfolding reportsOf duration said kept
-  run-tells [] t m a calm w =
+  tells-from [] t m a calm left =
       sym (said-none _ (ap (λ (k : ℕ). report (milliseconds t b) (milliseconds k b)) (add-zero t) ∙ report-same (milliseconds t b)))
-  run-tells (turn ∷ run) t m a calm w =
+  tells-from (turn ∷ run) t m a calm left =
       let next = gives turn m .leaves in
       let j = lasting turn m in
       let d = duration run next in
-      let begun : 0 < untilEnd (b .motion) + b .params .rpt - t = w .0 in
       let together : t + j + d ≡ t + (j + d) = omega arith in
-      let later = turn-passes tag (untilEnd (b .motion) + b .params .rpt) b (busy-until order b s on) turn t m (omega arith) a (calm .0) in
+      let later = turn-passes tag b turn t m a (calm .0) (left .0) in
       said-append (reportIn tag (turn .call) (gives turn m)) (reportsOf tag run next)
       ∙ ap₂ (λ (xs ys : List ℕ). xs ++ ys)
       (call-tells tag (milliseconds t b) m (turn .cells) a (turn .call) (calm .0)
       ∙ ap (λ (x : Blind). said (report (milliseconds t b) x ∷ [])) (sym (cut t j b)))
-      (run-tells run (t + j) next later (calm .1) (within-later (untilEnd (b .motion) + b .params .rpt) t j run next (w .1)))
+      (tells-from run (t + j) next later (calm .1) (left .1))
       ∙ parts t (t + j) (t + j + d) (omega arith) (omega arith)
       ∙ ap (λ (k : ℕ). said (report (milliseconds t b) (milliseconds k b) ∷ [])) together
+
+  -- Of a sound blind that nothing disturbs: once its time is over one cell tells where it then stands; until then, or if it was at rest,
+  -- none tells anything.
+  pub run-tells : (run : Run) (m : Model) → Fine m → blindAt tag m ≡ some b → Each (Calm tag) run m → Each (Unedited tag) run m
+      → heard tag run m
+      ≡ cond (ltb 0 (untilEnd (b .motion)) && leb (untilEnd (b .motion)) (duration run m))
+      (told (b .params) (milliseconds (untilEnd (b .motion)) b .place) ∷ []) []
+  unfolding said tells milliseconds
+  run-tells run m fine here calm left =
+      tells-from run 0 m (at-first tag b m fine here) calm left
+      ∙ ap (λ (k : ℕ). said (report b (milliseconds k b) ∷ [])) (zero-add (duration run m))
+      ∙ ap (λ (n : ℕ). said (n ∷ [])) (stretch-reports b s 0 (duration run m) zero-le)
+      ∙ said-if (ltb 0 (untilEnd (b .motion)) && leb (untilEnd (b .motion)) (duration run m)) _ (told-most (b .params) (milliseconds (untilEnd (b .motion)) b .place))

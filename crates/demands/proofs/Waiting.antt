@@ -21,18 +21,13 @@ use Rattle.panel.specs.Sound.{Fine}
 use Rattle.seats.specs.Untouched.{blindAt}
 use Rattle.demands.specs.Runs.{Run, Each, after, duration}
 use Rattle.demands.specs.Demand2.{trace}
-use Rattle.demands.specs.Calm.{Calm, Within, motorIn, motionSeen, Shows, Keeps}
+use Rattle.demands.specs.Calm.{Calm, Unedited, Within, motorIn, motionSeen, Shows, Keeps}
 use Rattle.demands.proofs.Seats.{seat-of}
-use Rattle.demands.proofs.Calm.{Apart, short-within, calm-passes, calm-trace}
+use Rattle.demands.proofs.Calm.{Apart, at-first, short-within, within-unedited, calm-passes, calm-trace}
 
 -- the blind of a sound panel is sound
 pub blind-sound : (tag : ℕ) (b : Blind) (m : Model) → Fine m → blindAt tag m ≡ some b → ofBlind.Sound b
 blind-sound tag b m fine here = let (seat, there, is) = seat-of (m .seats tag) b here in subst ofBlind.Sound is (fine .sound .blinds tag seat there)
-
--- a panel with the blind as it is, none of its milliseconds gone
-pub at-first : (tag : ℕ) (b : Blind) (m : Model) → Fine m → blindAt tag m ≡ some b → Apart tag (milliseconds 0 b) m
-unfolding milliseconds
-at-first tag b m fine here = record { fine = fine; flags = b .flags; blind = here }
 
 -- what is seen of it after a run
 pub motion-then : (tag : ℕ) (b : Blind) (m : Model) → Apart tag b m → motionSeen tag m ≡ some (b .motion)
@@ -63,16 +58,21 @@ module _ (tag : ℕ) (run : Run) (b : Blind) (m : Model) (fine : Fine m) (here :
       ∙ ap (λ (x : Blind). x .motion) (rests-then order b s on (k - untilEnd (b .motion)))
       ∙ ap (λ (j : ℕ). Motion.Off j) left
 
-  -- the blind after the run, apart from its flags
-  pub left : Within (untilEnd (b .motion) + b .params .rpt) run m → Apart tag (milliseconds (duration run m) b) (after run m)
-  left w =
-      subst (λ (k : ℕ). Apart tag (milliseconds k b) (after run m)) (zero-add (duration run m))
-      (calm-passes tag (untilEnd (b .motion) + b .params .rpt) b (busy-until order b s on) run 0 m (at-first tag b m fine here) calm
-      (subst (λ (n : ℕ). Within n run m) (sym (sub-zero (untilEnd (b .motion) + b .params .rpt))) w))
+  -- Until the pause is over no edit is accepted that would change the blind.
+  pub pause-unedited : Within (untilEnd (b .motion) + b .params .rpt) run m → Each (Unedited tag) run m
+  pause-unedited w =
+      within-unedited tag (untilEnd (b .motion) + b .params .rpt) b (busy-until order b s on) run 0 m (at-first tag b m fine here) calm
+      (subst (λ (n : ℕ). Within n run m) (sym (sub-zero (untilEnd (b .motion) + b .params .rpt))) w)
 
-  -- a run that is shorter than the order is one of them
-  pub short : duration run m < untilEnd (b .motion) → Within (untilEnd (b .motion) + b .params .rpt) run m
-  short h = short-within (untilEnd (b .motion) + b .params .rpt) run m (omega arith)
+  -- so while the order lasts there is none
+  pub short : duration run m < untilEnd (b .motion) → Each (Unedited tag) run m
+  short h = pause-unedited (short-within (untilEnd (b .motion) + b .params .rpt) run m (omega arith))
+
+  -- the blind after the run, apart from its flags
+  pub left : Each (Unedited tag) run m → Apart tag (milliseconds (duration run m) b) (after run m)
+  left unedited =
+      subst (λ (k : ℕ). Apart tag (milliseconds k b) (after run m)) (zero-add (duration run m))
+      (calm-passes tag b run 0 m (at-first tag b m fine here) calm unedited)
 
 -- ---- a waiting order
 
@@ -106,13 +106,10 @@ module _ (tag : ℕ) (run : Run) (b : Blind) (m : Model) (fine : Fine m) (here :
         then-off = λ k long h l. finds k long l ∙ ap motorAt (rests-now k h);
       }
 
-  within : Within (rest + order .length + b .params .rpt) run m → Within (untilEnd (b .motion) + b .params .rpt) run m
-  within = subst (λ (u : ℕ). Within (u + b .params .rpt) run m) (sym whole)
-
-  does-then : Within (untilEnd (b .motion) + b .params .rpt) run m → motionSeen tag (after run m) ≡ some (milliseconds (duration run m) b .motion)
+  does-then : Each (Unedited tag) run m → motionSeen tag (after run m) ≡ some (milliseconds (duration run m) b .motion)
   does-then w = motion-then tag (milliseconds (duration run m) b) (after run m) (left tag run b m fine here order on calm w)
 
-  so-far : duration run m < rest + order .length → Within (untilEnd (b .motion) + b .params .rpt) run m
+  so-far : duration run m < rest + order .length → Each (Unedited tag) run m
   so-far h = short tag run b m fine here order on calm (subst (λ (u : ℕ). duration run m < u) (sym whole) h)
 
   -- And what the blind does at the end of any such run.
@@ -121,7 +118,7 @@ module _ (tag : ℕ) (run : Run) (b : Blind) (m : Model) (fine : Fine m) (here :
       record {
         waits = λ h. does-then (so-far (omega arith)) ∙ ap (λ (x : Motion). some x) (waits-until b rest order waits-now (duration run m) h);
         runs = λ h l. does-then (so-far l) ∙ ap (λ (x : Motion). some x) (runs-then b rest order waits-now (duration run m) above h l);
-        rests = λ h w. does-then (within w) ∙ ap (λ (x : Motion). some x) (rests-now (duration run m) h);
+        rests = λ h w. does-then w ∙ ap (λ (x : Motion). some x) (rests-now (duration run m) h);
       }
 
 -- ---- a run that goes on

@@ -20,8 +20,8 @@ use Rattle.conduct.specs.Ends.{untilEnd}
 use Rattle.panel.specs.Panel.{Model}
 use Rattle.telegrams.specs.Locality.{reached}
 use Rattle.seats.specs.Untouched.{blindAt}
-use Rattle.demands.specs.Calls.{telegram}
-use Rattle.demands.specs.Runs.{Turn, Run, gives, after, lasting, duration, reportsOf}
+use Rattle.demands.specs.Calls.{Call, telegram, removeBlind, writeParams}
+use Rattle.demands.specs.Runs.{Turn, Run, Each, gives, after, lasting, duration, reportsOf}
 use Rattle.demands.specs.Demand2.{Moment, Unheeded}
 
 -- "No accepted telegram disturbs the blind." Every other call may come, done or refused, and every refused telegram.
@@ -29,6 +29,15 @@ abbrev pub Calm : ℕ → Turn → Model → Type 0
 Calm tag turn m =
     (address value : ℕ) (b : Blind) → turn .call ≡ telegram address value → gives turn m .answer ≡ 0 → blindAt tag m ≡ some b
     → Unheeded value (reached tag address m) b
+
+-- The edits that change a blind themselves: the removal of its tag, and a write of its parameters.
+pub data Changes (tag : ℕ) : Call → Type 0 where
+  removes : Changes tag (removeBlind tag)
+  writes : {asked : List ℕ} → Changes tag (writeParams tag asked)
+
+-- "No such edit is accepted." Every refused one may come, and every other edit, those of the blind's own links among them.
+abbrev pub Unedited : ℕ → Turn → Model → Type 0
+Unedited tag turn m = Changes tag (turn .call) → gives turn m .answer ≡ 0 → ⊥
 
 -- Each call of a run begins before so many of its milliseconds are gone; the last may run past them. A shorter run is always so.
 abbrev pub Within : ℕ → Run → Model → Type 0
@@ -68,7 +77,7 @@ pub record Keeps (rest : ℕ) (order : ofRuns.Run) (pause tag : ℕ) (run : Run)
   pub waits : duration run m < rest → motionSeen tag (after run m) ≡ some (Motion.Waits (rest - duration run m) order)
   pub runs : rest ≤ duration run m → duration run m < rest + order .length
       → motionSeen tag (after run m) ≡ some (Motion.Runs (shorter (duration run m - rest) order))
-  pub rests : rest + order .length ≤ duration run m → Within (rest + order .length + pause) run m
+  pub rests : rest + order .length ≤ duration run m → Each (Unedited tag) run m
       → motionSeen tag (after run m) ≡ some (Motion.Off (rest + order .length + pause - duration run m))
 
 -- ---- the end of a run
@@ -78,9 +87,9 @@ pub record Keeps (rest : ℕ) (order : ofRuns.Run) (pause tag : ℕ) (run : Run)
 pub record EndsAt (place : Place) (tag : ℕ) (b : Blind) (run : Run) (m : Model) : Type 0 where
   pub on-before : duration run m < untilEnd (b .motion) → activeSeen tag (after run m) ≡ some true
   pub silent-before : duration run m < untilEnd (b .motion) → heard tag run m ≡ []
-  pub there : untilEnd (b .motion) ≤ duration run m → Within (untilEnd (b .motion) + b .params .rpt) run m
+  pub there : untilEnd (b .motion) ≤ duration run m → Each (Unedited tag) run m
       → placeSeen tag (after run m) ≡ some place
-  pub rests : untilEnd (b .motion) ≤ duration run m → Within (untilEnd (b .motion) + b .params .rpt) run m
+  pub rests : untilEnd (b .motion) ≤ duration run m → Each (Unedited tag) run m
       → motionSeen tag (after run m) ≡ some (Motion.Off (untilEnd (b .motion) + b .params .rpt - duration run m))
-  pub told-once : untilEnd (b .motion) ≤ duration run m → Within (untilEnd (b .motion) + b .params .rpt) run m
+  pub told-once : untilEnd (b .motion) ≤ duration run m → Each (Unedited tag) run m
       → heard tag run m ≡ told (b .params) place ∷ []

@@ -1,5 +1,5 @@
--- Document 01, "Cases by number": W1 to W12 as scripts of calls on the panel, with what is seen after them; `cases` is the one list. W9 is
--- read as K5 has it. Beside them R3, and the caretaker's story.
+-- Document 01, "Cases by number": W1 to W12 as scripts of calls on the panel, with what is seen after them; `cases` is the one list. W3 is
+-- read as K2 has it, W9 as K5 has it. Beside them R3, and the caretaker's story.
 -- Assumes nothing.
 use Prim.Native.Nat.{ℕ, _+_}
 use mathlib.Core.Bool.{Bool}
@@ -56,9 +56,9 @@ w1 = fresh ++ (plain (MUD 0) ∷ look (timeStep 499) off ∷ look (timeStep 1) u
 abbrev pub w2 : List Line
 w2 = w1 ++ (look (timeStep 59999) up ∷ look (timeStep 1) (both off (reports 256)) ∷ [])
 
--- "Then SAPBP 128 at once: off; 500 ms: down; 30,117 ms: off, report 383."
+-- "Then SAPBP 128 at once: off; 500 ms: down; 30,117 ms: off, report 384", as K2 has it.
 abbrev pub w3 : List Line
-w3 = w2 ++ (look (SAPBP 128) off ∷ ends 500 off down ∷ ends 30117 down (both off (reports 383)) ∷ [])
+w3 = w2 ++ (look (SAPBP 128) off ∷ ends 500 off down ∷ ends 30117 down (both off (reports 384)) ∷ [])
 
 -- "Running up, MUD 1: off; 499 ms: off; 1 ms: down."
 abbrev pub w4 : List Line

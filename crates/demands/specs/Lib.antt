@@ -11,3 +11,4 @@ pub mod Chain
 pub mod Calm
 pub mod Ruling
 pub mod Plain
+pub mod Finished

@@ -1,8 +1,10 @@
 -- A command carried out: what it does to the panel, and the answer that it writes.
 -- Assumes nothing.
 use Prim.Native.Nat.{ℕ}
+use mathlib.Core.Bool.{cond}
 use mathlib.Core.List.{List, [], _∷_}
 use lib.ListN.{replicate}
+use lib.Dec.{leb}
 use Rattle.answers.specs.Rules.{Result, carried}
 use Rattle.tags.specs.Tags.{places}
 use Rattle.params.specs.Numbers.{rowOf}
@@ -20,6 +22,7 @@ use Rattle.removals.specs.Removals.{removeRule}
 use Rattle.writes.specs.Writes.{writeRule}
 use Rattle.wiring.specs.Wiring.{addRule, removeLinkRule}
 use Rattle.splices.specs.Splices.{spliceInRule, spliceOutRule}
+use Rattle.display.specs.Display.{percentOf}
 use Rattle.texts.specs.Text.{text}
 use Rattle.texts.specs.Sheet.{Sheet, sheet, puts, joined}
 use Rattle.decimals.specs.Decimals.{decimal}
@@ -65,6 +68,10 @@ editRule (Edit.Unlink address tag kind) = removeLinkRule (linkOf address tag kin
 editRule (Edit.In t n) = spliceInRule t n
 editRule (Edit.Out t n) = spliceOutRule t n
 
+-- "`0 PERCENT`, for a RAW above 255 `1 0`."
+unfoldable pub percentText : ℕ → List ℕ
+percentText raw = cond (leb raw 255) (counted 0 (percentOf raw)) (counted 1 0)
+
 -- What a command does to a panel and writes.
 unfoldable pub carriedOut : Command → Model → Sheet → Desk
 carriedOut Command.New m = wrote bare (text "0")
@@ -74,3 +81,4 @@ carriedOut Command.Inv m = inventoried (carried inventoryRule m noCells)
 carriedOut (Command.Edit edit) m = edited (carried (editRule edit) m noCells)
 carriedOut (Command.Tel address value) m = celled noReport (carried (telegramRule address value) m (row (replicate places noReport)))
 carriedOut (Command.Time dt) m = celled noReport (carried (stepRule dt) m (row (replicate places noReport)))
+carriedOut (Command.Percent raw) m = wrote m (percentText raw)

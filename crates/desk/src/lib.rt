@@ -1,11 +1,14 @@
-// A command carried out on a panel: the panel's own call, and its answer on a lent sheet.
+// A command carried out on a panel: the panel's own call, or what a display shows, and the answer on a lent sheet.
 mod motors;
 
 use crate::motors::OFF;
 use crate::motors::widened;
+use answers::DONE;
+use answers::OUT_OF_RANGE;
 use commands::Command;
 use commands::Edit;
 use decimals::put_number;
+use display::percent;
 use installs::install;
 use outputs::NO_REPORT;
 use panel::Panel;
@@ -34,6 +37,9 @@ ghost use Rattle.panel.specs.Calls.{row, noCells, handed};
 ghost use Rattle.texts.specs.Sheet.{sheet};
 ghost use Rattle.desk.specs.Desk.{deskOf, edited, celled, editRule, carriedOut};
 
+// The largest byte that a report tells.
+const LAST_BYTE: u64 = 255;
+
 // The panel as a command leaves it, and how far the sheet is written.
 pub struct After {
     pub panel: Panel,
@@ -61,6 +67,7 @@ pub fn carry_out(panel: Panel, command: Command, out: &mut [u8], at: usize) -> A
         Command::Edit(edit) => tell(apply(panel, edit), out, at),
         Command::Tel(address, value) => send(panel, address, value, out, at),
         Command::Time(dt) => pass(panel, dt, out, at),
+        Command::Percent(raw) => tell_percent(panel, raw, out, at),
     }
 }
 
@@ -121,6 +128,18 @@ fn read_strip(panel: Panel, out: &mut [u8], at: usize) -> After
     let done = strip(panel, &mut cells);
     let shown = widened(cells);
     tell_cells(done, OFF as u16, &shown, out, at)
+}
+
+// What a display shows for a byte; there is none above the last.
+fn tell_percent(panel: Panel, raw: u64, out: &mut [u8], at: usize) -> After
+    ensures { λ r. ⌜ deskOf r (now (out .exit)) ≡ carriedOut (Command.Percent raw) (modelOf panel) (sheet (now (out .entry)) at) ⌝ }
+{
+    let next = if raw <= LAST_BYTE {
+        put_counted(out, at, DONE, percent(raw as u8) as u64)
+    } else {
+        put_counted(out, at, OUT_OF_RANGE, 0)
+    };
+    After { panel, at: next }
 }
 
 // The answer of a call that was lent cells.

@@ -1,9 +1,10 @@
 -- Document 01, all that it says of heights: "MUDT, full run", "The position moves by 1", the ends of a full run, the target
--- of SAPBP and the way to it, and what a report tells. Everything else asks by these names.
+-- of SAPBP and the way to it; and what a report tells, as K2 of document 02 has it. Everything else asks by these names.
 -- Assumes nothing.
-use Prim.Native.Nat.{ℕ, zero, suc, _+_, _-_, _*_, _/_, min}
+use Prim.Native.Nat.{ℕ, zero, suc, _+_, _-_, _*_, _/_, min, max}
 use mathlib.Core.Bool.{true, false, cond}
-use lib.Dec.{ltb}
+use lib.Dec.{eqb, ltb}
+use Rattle.laws.specs.Nearest.{nearest}
 use Rattle.params.specs.declared.Params.{Params}
 use Rattle.heights.specs.declared.Direction.{Direction}
 use Rattle.heights.specs.declared.Place.{Place}
@@ -55,10 +56,18 @@ wayTo p far place =
     (cond (ltb far (place .position)) (Way.Go Direction.Up (place .position - far))
     Way.Met)
 
--- "Floor(position · 255 / MUDT)."
-unfoldable pub part : ℕ → ℕ → ℕ
-part position lowest = position * 255 / lowest
+-- "Kept within 1 to 254."
+abbrev pub keptBetween : ℕ → ℕ
+keptBetween n = max 1 (min 254 n)
+
+-- K2: "0 means exactly at the top and 255 exactly at the bottom; between, it is the nearest whole number to position · 255 / MUDT, a half
+-- going up, kept within 1 to 254."
+unfoldable pub raw : ℕ → ℕ → ℕ
+raw position lowest =
+    cond (eqb position 0) 0
+    (cond (eqb position lowest) 255
+    (keptBetween (nearest (position * 255) lowest)))
 
 -- "Plus 256 if valid."
 unfoldable pub told : Params → Place → ℕ
-told p place = part (place .position) (bottom p) + cond (place .valid) 256 0
+told p place = raw (place .position) (bottom p) + cond (place .valid) 256 0

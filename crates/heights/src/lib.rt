@@ -1,8 +1,10 @@
 // All that the rules ask of heights: where a blind is, how long a full run lasts, where a running millisecond and a
 // whole run lead, what a byte means as a target and which way it is, and what is told of a place.
 use params::Params;
+ghost use Prim.Native.Nat.{_*_};
 ghost use mathlib.Core.Path.{_≡_};
-ghost use Rattle.heights.specs.Heights.{fullTime, bottom, nextHeight, nextPlace, placeAfter, endOf, target, wayTo, part, told};
+ghost use Rattle.laws.specs.Nearest.{nearest};
+ghost use Rattle.heights.specs.Heights.{fullTime, bottom, nextHeight, nextPlace, placeAfter, endOf, target, wayTo, keptBetween, raw, told};
 
 pub enum Direction {
     Up,
@@ -21,10 +23,15 @@ pub enum Way {
     Go(Direction, u32),
 }
 
-// The part of the full run at its lower end, as a byte.
+// The lower end as a byte.
 const LOWEST: u64 = 255;
 
-// What is added to the part where the position is valid.
+// What is told between the ends, as a byte.
+const LEAST: u64 = 1;
+
+const MOST: u64 = 254;
+
+// What is added where the position is valid.
 const VALID: u64 = 256;
 
 // How long a full run lasts.
@@ -108,8 +115,8 @@ impl Place {
     pub fn told(self, params: Params) -> u64
         ensures { λ r. ⌜ r ≡ told params self ⌝ }
     {
-        let part = part(self.position, bottom(params));
-        if self.valid { part + VALID } else { part }
+        let raw = raw(self.position, bottom(params));
+        if self.valid { raw + VALID } else { raw }
     }
 }
 
@@ -128,12 +135,42 @@ fn next_height(direction: Direction, bottom: u32, position: u32) -> u32
     }
 }
 
+// A height as a byte: 0 at the top, 255 at the bottom, and between them the nearest part of the way.
+fn raw(position: u32, bottom: u32) -> u64
+    ensures { λ r. ⌜ r ≡ raw position bottom ⌝ }
+{
+    if position == 0 {
+        return 0;
+    }
+    if position == bottom {
+        return LOWEST;
+    }
+    kept_between(nearest_part(position, bottom))
+}
+
 // A lower end of 0 is no sound blind's, but it must not be divided by.
-fn part(position: u32, bottom: u32) -> u64
-    ensures { λ r. ⌜ r ≡ part position bottom ⌝ }
+fn nearest_part(position: u32, bottom: u32) -> u64
+    ensures { λ r. ⌜ r ≡ nearest (position * 255) bottom ⌝ }
 {
     if bottom == 0 {
         return 0;
     }
-    position as u64 * LOWEST / bottom as u64
+    let whole = bottom as u64;
+    let parts = position as u64 * LOWEST;
+    let part = parts / whole;
+    let left = parts % whole;
+    if whole <= 2 * left { part + 1 } else { part } // a half goes up
+}
+
+// No end is told short of it.
+fn kept_between(part: u64) -> u64
+    ensures { λ r. ⌜ r ≡ keptBetween part ⌝ }
+{
+    if part < LEAST {
+        LEAST
+    } else if MOST < part {
+        MOST
+    } else {
+        part
+    }
 }

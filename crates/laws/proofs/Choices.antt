@@ -1,7 +1,11 @@
 -- Choices by a test, and tests that are joined.
 -- Assumes nothing.
+use Prim.Native.Nat.{ℕ, _<_, _≤_}
+use native.Mathlib.Decide.{ℕ-discrete}
 use mathlib.Core.Bool.{Bool, true, false, cond, _&&_, true≢false}
 use mathlib.Core.Path.{_≡_, refl, sym, _∙_}
+use lib.Dec.{ltb}
+use borrow.Author.Tests.{ltb-true, ltb-false}
 
 -- what both sides of a choice have, the choice has
 pub cond-has : {A : Type 0} (P : A → Type 0) (t : Bool) (a b : A) → (t ≡ true → P a) → (t ≡ false → P b) → P (cond t a b)
@@ -32,3 +36,19 @@ is-false false h = refl
 
 pub never-both : {A : Type 0} (t : Bool) → t ≡ true → t ≡ false → A
 never-both t p q = absurd (true≢false (sym p ∙ q))
+
+-- below a number, or from it on
+pub below-or : {P : Type 0} (k n : ℕ) → (k < n → P) → (n ≤ k → P) → P
+below-or {P} k n below from = go (ltb k n) refl
+  where
+    go : (t : Bool) → ltb k n ≡ t → P
+    go true e = below (ltb-true k n e)
+    go false e = from (ltb-false k n e)
+
+-- the same number, or another
+pub same-or-other : {P : Type 0} (a b : ℕ) → (a ≡ b → P) → ((a ≡ b → ⊥) → P) → P
+same-or-other {P} a b same other = go (ℕ-discrete a b)
+  where
+    go : Dec (a ≡ b) → P
+    go (yes e) = same e
+    go (no h) = other h

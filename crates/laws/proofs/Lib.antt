@@ -10,3 +10,4 @@ pub mod Fills
 pub mod Every
 pub mod Any
 pub mod Unused
+pub mod Nearest

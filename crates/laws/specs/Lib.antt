@@ -3,3 +3,4 @@ pub mod Decides
 pub mod Fills
 pub mod Every
 pub mod Any
+pub mod Nearest

@@ -32,6 +32,7 @@ table =
     ∷ ("time", taking Name.Time 1 false)
     ∷ ("strip", taking Name.Strip 0 false)
     ∷ ("inv", taking Name.Inv 0 false)
+    ∷ ("percent", taking Name.Percent 1 false)
     ∷ ("show", taking Name.Show 0 false)
     ∷ ("new", taking Name.New 0 false)
     ∷ []

@@ -19,6 +19,7 @@ pub enum Name {
     Out,
     Tel,
     Time,
+    Percent,
 }
 
 // What is known of a word: whether it names a command, and if so which, how many arguments that takes, and whether a set
@@ -49,7 +50,8 @@ impl Entry {
         let none = Entry::unknown();
         let new = none.or(word, b"new", Name::New, 0, false);
         let show = new.or(word, b"show", Name::Show, 0, false);
-        let inv = show.or(word, b"inv", Name::Inv, 0, false);
+        let percent = show.or(word, b"percent", Name::Percent, 1, false);
+        let inv = percent.or(word, b"inv", Name::Inv, 0, false);
         let strip = inv.or(word, b"strip", Name::Strip, 0, false);
         let time = strip.or(word, b"time", Name::Time, 1, false);
         let tel = time.or(word, b"tel", Name::Tel, 2, false);

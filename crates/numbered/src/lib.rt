@@ -15,7 +15,7 @@ use texts::put_text;
 // A case begins with this mark and its name; its script goes on to the next mark.
 const MARK: u8 = b'@';
 
-const WORKED: [u8; 5045] = *b"@W1
+const WORKED: [u8; 5059] = *b"@W1
 # MUD 0, then 499 ms: off. 1 ms more: up.
 tel 104 0 = 0 1
 time 499 = 0 0
@@ -32,7 +32,7 @@ strip = 0 0 9=1
 time 1 = 0 0 5=256
 strip = 0 0
 @W3
-# Then SAPBP 128 at once: off; 500 ms: down; 30,117 ms: off, report 383.
+# Then SAPBP 128 at once: off; 500 ms: down; 30,117 ms: off, report 384, as K2 has it.
 tel 104 0 = 0 1
 time 500 = 0 0
 time 60000 = 0 0 5=256
@@ -42,7 +42,7 @@ time 500 = 0 0
 strip = 0 0 9=2
 time 30116 = 0 0
 strip = 0 0 9=2
-time 1 = 0 0 5=383
+time 1 = 0 0 5=384
 strip = 0 0
 @W4
 # Running up, MUD 1: off; 499 ms: off; 1 ms: down.

@@ -14,7 +14,7 @@ use Rattle.laws.proofs.Fills.{filled-all, tabulate-same, tabulate-at}
 use Rattle.tags.specs.Tags.{places}
 use Rattle.blind.specs.declared.Blind.{Blind}
 use Rattle.heights.specs.Heights.{told}
-use Rattle.heights.proofs.Numbers.{told-most}
+use Rattle.heights.proofs.Told.{told-most}
 use Rattle.outputs.specs.Reports.{active, noReport, report}
 use Rattle.sound_blind.specs.Sound as ofBlind
 use Rattle.panel.specs.Panel.{Seat, Model}
@@ -24,7 +24,7 @@ use Rattle.panel.specs.Reports.{cell, reports}
 pub report-most : (before after : Blind) → ofBlind.Sound after → report before after ≤ noReport
 unfolding report
 report-most before after s =
-    let most : told (after .params) (after .place) < 512 = told-most (after .params) (after .place) (s .params) (s .position) in
+    let most : told (after .params) (after .place) < 512 = told-most (after .params) (after .place) in
     cond-has (λ (n : ℕ). n ≤ noReport) (active before && not (active after)) _ noReport (λ e. omega arith) (λ e. le-refl noReport)
 
 -- and so is what its cell holds, whether there is a blind or not

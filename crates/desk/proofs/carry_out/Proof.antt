@@ -53,6 +53,9 @@ returns-6 c = of-command _ _ (c .before .before .before .before .before .command
 returns-7 : tie.Need-returns-7
 returns-7 c = of-command _ _ (c .before .before .before .before .before .command3 .given .1) (c .before .before .pass .ensures)
 
+returns-8 : tie.Need-returns-8
+returns-8 c = of-command _ _ (c .before .before .before .before .before .command4 .given .1) (c .before .before .tell-percent .ensures)
+
 pub carry-out-spec : {M : Type 1} → statement M
 carry-out-spec =
     tie.close
@@ -60,6 +63,7 @@ carry-out-spec =
     (λ c. search needs) (λ c. search needs) (λ c κs. search needs) (λ c κs. search needs) (λ c. search needs) (λ c κs. search needs)
     (λ c. search needs) (λ c κs. search needs) (λ c. search needs) (λ c κs. search needs) (λ c. search needs) (λ c κs. search needs)
     (λ c κs. search needs) (λ c. search needs) (λ c κs. search needs) (λ c. search needs) (λ c κs. search needs) (λ c. search needs)
+    (λ c κs. search needs) (λ c. search needs)
     returns
     (λ c. search needs)
     returns-2
@@ -72,4 +76,6 @@ carry-out-spec =
     (λ c. search needs)
     returns-6
     (λ c. search needs)
-    returns-7)
+    returns-7
+    (λ c. search needs)
+    returns-8)

@@ -1,9 +1,9 @@
--- `Place::told`: `part` promises the part, and "valid" picks whether 256 is added.
+-- `Place::told`: `raw` promises the byte, and "valid" picks whether 256 is added.
 -- Assumes nothing.
 use borrow.Author.Needs.{needs}
 use native.Mathlib.Nat.{add-zero}
 use Rattle.heights.specs.Heights.{told}
-use Rattle.heights.proofs.Numbers.{told-fits}
+use Rattle.heights.proofs.Told.{told-fits}
 use Rattle.heights.proofs.Place.told.Statement.{statement}
 use Rattle.heights.proofs.Place.told.Tie as tie
 
@@ -13,6 +13,6 @@ told-spec =
     tie.close
     (tie.spec
     (λ c κs. search needs) (λ c κs. search needs)
-    (λ c. record { fits = told-fits _ _ _ (search needs) (c .before .part .ensures) })
-    (λ c. simp (c .if1 .taken, ← c .before .part .ensures, ← c .before .before .bottom .ensures))
-    (λ c. simp (c .if1 .left, c .before .part .ensures, c .before .before .bottom .ensures, add-zero)))
+    (λ c. record { fits = told-fits _ _ _ (c .before .raw .ensures) })
+    (λ c. simp (c .if1 .taken, ← c .before .raw .ensures, ← c .before .before .bottom .ensures))
+    (λ c. simp (c .if1 .left, c .before .raw .ensures, c .before .before .bottom .ensures, add-zero)))

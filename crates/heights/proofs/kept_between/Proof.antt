@@ -1,0 +1,13 @@
+-- `kept_between`: the tests say on which side of 1 and of 254 the number is.
+-- Assumes nothing.
+use native.Mathlib.Omega.{arith}
+use Rattle.heights.proofs.kept_between.Statement.{statement}
+use Rattle.heights.proofs.kept_between.Tie as tie
+
+pub kept-between-spec : {M : Type 1} → statement M
+kept-between-spec =
+    tie.close
+    (tie.spec
+    (λ c. omega (arith, c .if1 .taken))
+    (λ c. omega (arith, c .if2 .taken, c .before .if1 .left))
+    (λ c. omega (arith, c .if2 .left, c .before .if1 .left)))
