@@ -1,5 +1,5 @@
-/* The numbered cases of document 01 by the peer's calls, W9 as K5 has it:
-   one line for each, name, tab, `same` or `differs`. */
+/* The numbered cases of document 01 by the peer's calls, W3 as K2 has it and
+   W9 as K5 has it: one line for each, name, tab, `same` or `differs`. */
 
 #include "panel.h"
 
@@ -114,7 +114,58 @@ static void w2(void)
     expect_report(256);
 }
 
-/* "then SAPBP 128 at once: off; 500 ms: down; 30,117 ms: off, report 383." */
+/* K2: "a finished run to v, with nothing in between, reports v for every v
+   from 1 to 254." From where W3 ends, up to 1 and then down one by one. */
+static void expect_each_v(void)
+{
+    for (uint64_t v = 1; v <= 254; v++) {
+        send(SAPBP, v);
+        pass(60000);
+        expect_report(256 + v);
+    }
+}
+
+/* K2: "0 means exactly at the top and 255 exactly at the bottom; between, it
+   is the nearest whole number [...], a half going up, kept within 1 to 254."
+   With MUDT 1,020 it is the nearest one to a quarter of the position. */
+static void expect_raw_reports(void)
+{
+    static const uint64_t cases[][2] = {
+        { 0, 0 }, { 1, 1 }, { 2, 1 }, { 5, 1 }, { 6, 2 }, { 509, 127 },
+        { 510, 128 }, { 1013, 253 }, { 1014, 254 }, { 1018, 254 },
+        { 1019, 254 }, { 1020, 255 }
+    };
+    for (size_t i = 0; i < sizeof cases / sizeof cases[0]; i++)
+        expect(raw_report(cases[i][0], 1020) == cases[i][1]);
+    expect(raw_report(1, 600000) == 1 && raw_report(599999, 600000) == 254);
+}
+
+static void expect_percent(uint64_t raw, uint64_t number, uint64_t count)
+{
+    struct answer answer = percent(raw);
+    expect(answer.number == number && answer.count == count);
+}
+
+/* K2: "each entry is the nearest whole number to raw * 100 / 255, and it
+   never falls." */
+static void expect_percents(void)
+{
+    expect_percent(0, DONE, 0);
+    expect_percent(1, DONE, 0);
+    expect_percent(2, DONE, 1);
+    expect_percent(127, DONE, 50);
+    expect_percent(128, DONE, 50);
+    expect_percent(253, DONE, 99);
+    expect_percent(254, DONE, 100);
+    expect_percent(255, DONE, 100);
+    expect_percent(256, OUTSIDE_ITS_RANGE, 0);
+    expect_percent(UINT64_MAX, OUTSIDE_ITS_RANGE, 0);
+    for (uint64_t raw = 1; raw <= 255; raw++)
+        expect(percent(raw - 1).count <= percent(raw).count);
+}
+
+/* "then SAPBP 128 at once: off; 500 ms: down; 30,117 ms: off, report" 384, as
+   K2 has it: "W3 becomes 384." The rest of K2 is looked at here too. */
 static void w3(void)
 {
     w2();
@@ -126,7 +177,10 @@ static void w3(void)
     expect_motor(DOWN);
     pass(1);
     expect_motor(NEITHER);
-    expect_report(383);
+    expect_report(384);
+    expect_each_v();
+    expect_raw_reports();
+    expect_percents();
 }
 
 /* "running up, MUD 1: off; 499 ms: off; 1 ms: down." */

@@ -311,6 +311,14 @@ static void do_inv(struct panel *panel, const uint64_t *a, size_t count,
     put_inventory(text, inventory(panel));
 }
 
+static void do_percent(struct panel *panel, const uint64_t *a, size_t count,
+                       struct text *text)
+{
+    (void)panel;
+    (void)count;
+    put_answer(text, percent(a[0]));
+}
+
 static void do_show(struct panel *panel, const uint64_t *a, size_t count,
                     struct text *text)
 {
@@ -345,6 +353,7 @@ static const struct {
     { "time", 1, 1, do_time },
     { "strip", 0, 0, do_strip },
     { "inv", 0, 0, do_inv },
+    { "percent", 1, 1, do_percent },
     { "show", 0, 0, do_show },
     { "new", 0, 0, do_new },
 };

@@ -731,15 +731,38 @@ static void note_who_moves(const struct panel *panel, uint8_t moved[TAGS])
     }
 }
 
+/* K2: "the nearest whole number to" n / d, "a half going up" */
+static uint64_t nearest(uint64_t n, uint64_t d)
+{
+    uint64_t whole = n / d, left = n % d;
+    return 2 * left >= d ? whole + 1 : whole;
+}
+
+/* K2: "0 means exactly at the top and 255 exactly at the bottom; between, it
+   is the nearest whole number to position * 255 / MUDT, a half going up, kept
+   within 1 to 254." */
+uint64_t raw_report(uint64_t position, uint64_t mudt)
+{
+    if (position == 0)
+        return 0;
+    if (position == mudt)
+        return 255;
+    uint64_t raw = nearest(position * 255, mudt);
+    if (raw < 1)
+        return 1;
+    if (raw > 254)
+        return 254;
+    return raw;
+}
+
 /* "If the blind was running or waiting before the call and is neither after
-   it, the cell is floor(position * 255 / MUDT), plus 256 if valid; else
-   512." */
+   it, the cell is" K2's number, "plus 256 if valid; else 512." */
 static uint16_t report(const struct blind *b, int moved_before)
 {
     if (!moved_before || runs_or_waits(b))
         return 512;
-    uint64_t cell = b->position * 255 / b->parameters.mudt;
-    return (uint16_t)(b->valid ? cell + 256 : cell);
+    uint64_t raw = raw_report(b->position, b->parameters.mudt);
+    return (uint16_t)(b->valid ? raw + 256 : raw);
 }
 
 /* "Telegrams and time steps fill 64 lent cells, one for each tag." */
@@ -748,6 +771,15 @@ static void fill_reports(const struct panel *panel, const uint8_t moved[TAGS],
 {
     for (uint64_t tag = 0; tag < TAGS; tag++)
         cells[tag] = report(&panel->blinds[tag], moved[tag]);
+}
+
+/* K2: "The wall display shows per cent from a table of 256 entries; each
+   entry is the nearest whole number to raw * 100 / 255" */
+struct answer percent(uint64_t raw)
+{
+    if (raw > 255)
+        return refused(OUTSIDE_ITS_RANGE);
+    return done(nearest(raw * 100, 255));
 }
 
 /* ---- Telegrams, time and readings ------------------------------------ */

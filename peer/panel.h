@@ -2,7 +2,7 @@
    that the first implementation is compared with. Plain on purpose: the
    panel is one struct, the table is a sorted array, a time step is a loop
    over milliseconds. Words in quotation marks are document 01's; those after
-   "K4:" are that request's, in document 02. */
+   "K2:", "K4:" or "K5:" are that request's, in document 02. */
 
 #ifndef PANEL_H
 #define PANEL_H
@@ -146,5 +146,13 @@ struct answer strip_reading(const struct panel *panel, uint16_t *cells,
                             uint64_t lent);
 
 struct inventory inventory(const struct panel *panel);
+
+/* What a report says of a position, without the 256 of a valid one; for the
+   cases to look at. */
+uint64_t raw_report(uint64_t position, uint64_t mudt);
+
+/* The entry of the wall display's table for a report without its 256. It is
+   no call of the panel; above 255 the table has no entry. */
+struct answer percent(uint64_t raw);
 
 #endif

@@ -266,9 +266,22 @@ static uint64_t a_free_terminal(void)
     return a_terminal();
 }
 
+/* The first position where position * 255 / MUDT is a half, or as little below
+   one as it gets: what stops there shows how reports are rounded. */
+static uint64_t by_a_half(uint64_t mudt)
+{
+    uint64_t best = 3; /* 510ths of the way; 1 and 509 are kept within 1 to 254 */
+    for (uint64_t half = 5; half < 509; half += 2)
+        if (half * mudt % 510 < best * mudt % 510)
+            best = half;
+    return best * mudt / 510;
+}
+
 static struct parameters some_parameters(void)
 {
-    static const uint64_t run[] = { 1000, 1000, 1001, 1023, 1100, 1275, 2000 };
+    /* with 1020 every fourth position is at a half, with 1093 and 1177 one is
+       hardly below it */
+    static const uint64_t run[] = { 1000, 1000, 1001, 1020, 1093, 1100, 1177, 1275, 2000 };
     static const uint64_t step[] = { 1, 2, 50, 99, 100, 101, 300, 1000 };
     static const uint64_t pause[] = { 100, 100, 101, 130, 200, 1000 };
     struct parameters p;
@@ -284,6 +297,9 @@ static struct parameters some_parameters(void)
         static const uint64_t pauses[] = { 100, 101, 500, 9999, 10000 };
         p.mudt = ONE_OF(runs), p.sst = ONE_OF(steps), p.rpt = ONE_OF(pauses);
     }
+    uint64_t half = by_a_half(p.mudt);
+    if (half <= 10000 && chance(200)) /* a step from the top ends there */
+        p.sst = half;
     if (chance(60))
         p.sst = p.mudt;
     if (p.sst > p.mudt && chance(800))
@@ -414,6 +430,13 @@ static int stands_at_target(const struct blind *b)
         && v * b->parameters.mudt / 255 == b->position;
 }
 
+/* Whether it rests at the top, and a step down ends by a half. */
+static int steps_to_a_half(const struct blind *b)
+{
+    return b->motion == AT_REST && b->position == 0
+        && b->parameters.sst == by_a_half(b->parameters.mudt);
+}
+
 static uint64_t a_value_for(uint64_t address)
 {
     static const uint64_t outside[] = { 2, 3, 4, 127, 128, 254, 255, 256, 257 };
@@ -438,9 +461,13 @@ static void add_telegram(void)
 {
     static uint64_t address, value;
     const struct link *byte = some_link_of_kind(SAPBP);
+    const struct link *step = some_link_of_kind(SSUD);
     if (byte && stands_at_target(&picture.blinds[byte->tag]) && chance(400)) {
         address = byte->address;
         value = height_of(&picture.blinds[byte->tag]);
+    } else if (step && steps_to_a_half(&picture.blinds[step->tag]) && chance(200)) {
+        address = step->address;
+        value = 1;
     } else if (!chance(60)) { /* else the same once more */
         static const unsigned kinds[] = { 12, 8, 8, 12, 18, 8, 16, 22 };
         const struct link *link = some_link_of_kind(by_weight(kinds, 8));
@@ -556,21 +583,21 @@ static void add_splice_out(void)
 /* ---- Commands -------------------------------------------------------- */
 
 enum command {
-    INSTALL, REMOVE, PARAMS, LINK, UNLINK, IN, OUT, TEL, TIME, STRIP, INV, SHOW, NEW,
-    COMMANDS
+    INSTALL, REMOVE, PARAMS, LINK, UNLINK, IN, OUT, TEL, TIME, STRIP, INV, PERCENT,
+    SHOW, NEW, COMMANDS
 };
 
 /* How often each command comes, in the order of the list above. */
 static const unsigned normally[COMMANDS] =
-    { 20, 8, 14, 60, 25, 16, 14, 400, 260, 50, 12, 90, 1 };
+    { 20, 8, 14, 60, 25, 16, 14, 400, 260, 50, 12, 12, 90, 1 };
 static const unsigned in_a_burst[COMMANDS] =
-    { 40, 40, 120, 60, 30, 240, 200, 70, 20, 10, 10, 140, 0 };
+    { 40, 40, 120, 60, 30, 240, 200, 70, 20, 10, 10, 5, 140, 0 };
 static const unsigned in_a_crowd[COMMANDS] =
-    { 40, 8, 10, 300, 100, 20, 20, 250, 50, 25, 40, 12, 0 };
+    { 40, 8, 10, 300, 100, 20, 20, 250, 50, 25, 40, 10, 12, 0 };
 static const unsigned to_install[COMMANDS] =
-    { 900, 5, 5, 30, 5, 5, 5, 10, 10, 5, 10, 10, 0 };
+    { 900, 5, 5, 30, 5, 5, 5, 10, 10, 5, 10, 5, 10, 0 };
 static const unsigned to_link[COMMANDS] =
-    { 20, 1, 5, 900, 10, 3, 3, 60, 20, 5, 10, 10, 0 };
+    { 20, 1, 5, 900, 10, 3, 3, 60, 20, 5, 10, 5, 10, 0 };
 
 static enum command a_command(void)
 {
@@ -608,6 +635,17 @@ static void add_params(void)
         add_parameters();
 }
 
+/* Mostly a report without its 256; else the first number above, or one that a
+   narrow number would take for such a report. */
+static void add_percent(void)
+{
+    uint64_t raw = below(256);
+    if (chance(150))
+        raw = chance(300) ? 256 : odd_number(raw);
+    add("percent");
+    add_number(raw);
+}
+
 static void add_command(enum command command)
 {
     switch (command) {
@@ -622,6 +660,7 @@ static void add_command(enum command command)
     case TIME: add("time"); add_number(or_odd(a_time())); break;
     case STRIP: add("strip"); break;
     case INV: add("inv"); break;
+    case PERCENT: add_percent(); break;
     case SHOW: add("show"); break;
     default: add("new"); break;
     }
@@ -633,8 +672,9 @@ static void damage_command(void)
 {
     static const char *const names[] = {
         "Install", "NEW", "instal", "installs", "tell", "te", "tel1", "times",
-        "i", "in.", "outt", "stripe", "invent", "sho", "shows", "news", "0",
-        "error:", "quit", "help", "-", "new#", "parameters", "links", "\"inv\""
+        "i", "in.", "outt", "stripe", "invent", "percen", "percents", "%", "sho",
+        "shows", "news", "0", "error:", "quit", "help", "-", "new#", "parameters",
+        "links", "\"inv\""
     };
     const char *name = ONE_OF(names);
     words[0].length = strlen(name);
