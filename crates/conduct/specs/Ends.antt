@@ -34,8 +34,8 @@ pub record Ended (place : Place) (b b′ : Blind) : Type 0 where
   pub there : b′ .place ≡ place
   pub rests : b′ .motion ≡ Motion.Off (b .params .rpt)
 
--- Of a course that does not disturb a blind, cut anywhere: the piece in which the motor goes off again reports a number, and every piece
--- before and after it reports nothing.
+-- Of a course that does not disturb a blind, cut anywhere: the piece in which the motor goes off again reports n, and every piece before
+-- and after it reports nothing.
 abbrev pub ReportsOnce : ℕ → Blind → Type 0
 ReportsOnce n b =
     (before piece : List Event) → Undisturbed (before ++ piece) b

@@ -2,26 +2,33 @@
 -- Assumes nothing.
 use Prim.Native.Nat.{ℕ}
 use mathlib.Core.Path.{_≡_, refl, sym, ap, _∙_}
+use mathlib.Core.Bool.{true}
+use mathlib.Core.List.{List}
 use mathlib.Core.Option.{some, Option·map}
-use Rattle.answers.proofs.Rules.{leaves-has}
+use Rattle.laws.proofs.Choices.{never-both}
+use Rattle.answers.specs.Rules.{Result}
+use Rattle.answers.proofs.Rules.{refused, leaves-has}
 use Rattle.blind.specs.declared.Blind.{Blind}
 use Rattle.link.specs.declared.Link.{Link}
 use Rattle.table.specs.Links.{linksTo, linksOf}
-use Rattle.panel.specs.Panel.{Seat, Model}
+use Rattle.panel.specs.Panel.{Seat, Model, presentIn, isThere}
 use Rattle.panel.specs.Sound.{Fine}
 use Rattle.panel.specs.Calls.{Cells}
 use Rattle.telegrams.specs.Locality.{reached}
 use Rattle.readings.specs.Strip.{stripRule}
 use Rattle.readings.specs.Inventory.{inventoryRule}
 use Rattle.seats.specs.Untouched.{blindAt, Untouched}
+use Rattle.installs.specs.Installs.{installRule}
+use Rattle.installs.proofs.Passed.{installable}
 use Rattle.installs.proofs.Untouched.{install-untouched}
 use Rattle.removals.proofs.Untouched.{remove-untouched}
 use Rattle.writes.proofs.Untouched.{write-untouched}
 use Rattle.wiring.proofs.Untouched.{add-untouched, remove-link-untouched, add-seats, remove-link-seats}
 use Rattle.splices.specs.Splices.{OnlyTerminals}
 use Rattle.splices.proofs.Untouched.{splice-in-only, splice-out-only}
-use Rattle.demands.specs.Calls.{Call, telegram, timeStep, strip, install, removeBlind, writeParams, addLink, removeLink, spliceIn, spliceOut, inventory, does}
+use Rattle.demands.specs.Calls.{Call, telegram, timeStep, strip, install, removeBlind, writeParams, addLink, removeLink, spliceIn, spliceOut, inventory, ruleOf, does}
 use Rattle.demands.specs.Demand3.{Spares}
+use Rattle.demands.proofs.Seats.{seat-of}
 use Rattle.demands.proofs.Soundness.{kept-fine}
 
 -- What two panels have in common, seen from one tag: it has the same blind in both, and the same links.
@@ -35,6 +42,22 @@ pub record Alike (tag : ℕ) (blind : Blind) (a b : Model) : Type 0 where
 -- a call that leaves the table leaves the tag's links
 pub links-stay : (tag : ℕ) (m n : Model) → n .table ≡ m .table → linksOf tag (n .table .links) ≡ linksOf tag (m .table .links)
 links-stay tag m n e = ap (λ t. linksOf tag (t .links)) e
+
+-- a call that is refused leaves the blind
+pub refused-leaves : (tag : ℕ) (m : Model) (cells : Cells) (call : Call) → (does call m cells .answer ≡ 0 → ⊥)
+    → blindAt tag (does call m cells .leaves) ≡ blindAt tag m
+refused-leaves tag m cells call h = ap (λ (r : Result Model Cells). blindAt tag (r .leaves)) (refused (ruleOf call) m cells h)
+
+-- nobody is installed at a tag that has a blind
+pub install-leaves : (tag : ℕ) (b : Blind) (m : Model) (cells : Cells) → blindAt tag m ≡ some b → (terminal : ℕ) (asked : List ℕ)
+    → blindAt tag (does (install tag terminal asked) m cells .leaves) ≡ blindAt tag m
+unfolding presentIn
+install-leaves tag b m cells here terminal asked =
+    leaves-has (installRule tag terminal asked) m cells (λ (n : Model). blindAt tag n ≡ blindAt tag m) refl
+    (λ passed. never-both (isThere (m .seats tag)) present (installable tag terminal asked m cells passed .new))
+  where
+    present : isThere (m .seats tag) ≡ true
+    present = let (seat, there, is) = seat-of (m .seats tag) b here in ap isThere there
 
 -- the same links are reached
 pub reached-same : (tag address : ℕ) (a b : Model) → linksOf tag (a .table .links) ≡ linksOf tag (b .table .links) → reached tag address a ≡ reached tag address b

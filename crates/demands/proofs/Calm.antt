@@ -12,7 +12,7 @@ use lib.ListN.{length, getD, length-append}
 use lib.Dec.{eqb}
 use borrow.Author.Tests.{eqb-true}
 use Rattle.laws.proofs.Choices.{never-both, below-or, same-or-other}
-use Rattle.answers.proofs.Rules.{answer-is, leaves-has}
+use Rattle.answers.proofs.Rules.{answer-is}
 use Rattle.blind.specs.declared.Flags.{Flags}
 use Rattle.blind.specs.declared.Blind.{Blind}
 use Rattle.blind.specs.Fields.{withFlags}
@@ -21,14 +21,12 @@ use Rattle.milliseconds.specs.Milliseconds.{milliseconds}
 use Rattle.milliseconds.proofs.Cutting.{one-first, cut}
 use Rattle.outputs.specs.Reports.{motorOf, busy}
 use Rattle.conduct.proofs.Undisturbed.{milliseconds-flags}
-use Rattle.panel.specs.Panel.{Model, presentIn, isThere}
+use Rattle.panel.specs.Panel.{Model}
 use Rattle.panel.specs.Sound.{Fine}
 use Rattle.panel.specs.Calls.{Cells}
 use Rattle.telegrams.specs.Locality.{reached, heardBy}
 use Rattle.seats.specs.Seats.{isBusy}
 use Rattle.seats.specs.Untouched.{blindAt}
-use Rattle.installs.specs.Installs.{installRule}
-use Rattle.installs.proofs.Passed.{installable}
 use Rattle.removals.specs.Removals.{removeRule}
 use Rattle.removals.proofs.Passed.{removable}
 use Rattle.writes.specs.Writes.{writeRule}
@@ -36,13 +34,13 @@ use Rattle.writes.proofs.Passed.{writable}
 use Rattle.demands.specs.Calls.{Call, telegram, timeStep, strip, install, removeBlind, writeParams, addLink, removeLink, spliceIn, spliceOut, inventory, does}
 use Rattle.demands.specs.Runs.{Turn, Run, Each, after, gives, lasts, lasting, duration}
 use Rattle.demands.specs.Demand2.{Moment, moments, trace}
-use Rattle.demands.specs.Calm.{Calm, Changes, removes, writes, Unedited, Within, motorIn}
+use Rattle.demands.specs.Calm.{Calm, Unedited, Within, motorIn}
 use Rattle.demands.proofs.Seats.{seat-of}
 use Rattle.demands.proofs.Soundness.{kept-fine}
-use Rattle.demands.proofs.Alike.{spared, add-blind, remove-link-blind}
+use Rattle.demands.proofs.Alike.{spared, refused-leaves, install-leaves, add-blind, remove-link-blind}
 use Rattle.demands.proofs.BlindSeen.{telegram-seen, step-seen}
 use Rattle.demands.proofs.Pauses.{momentIn, momentsIn}
-use Rattle.demands.proofs.Demand2.{moments-seen, refused-leaves}
+use Rattle.demands.proofs.Demand2.{moments-seen}
 use Rattle.demands.proofs.Heard.{heard-unheeded}
 
 -- ---- telegrams that do not disturb
@@ -74,29 +72,26 @@ unfolding lasting
 timeless call cells m none =
     ap (λ (k : ℕ). cond (eqb (does call m cells .answer) 0) k 0) none ∙ no-time (eqb (does call m cells .answer) 0)
 
--- ---- edits that give the tag of a blind
+-- ---- edits that give the tag of a busy blind
 
 module _ (tag : ℕ) (b : Blind) (m : Model) (cells : Cells) (here : blindAt tag m ≡ some b) where
-  present : isThere (m .seats tag) ≡ true
-  present = let (seat, there, is) = seat-of (m .seats tag) b here in ap isThere there
-
   seat-busy : busy b ≡ true → isBusy (m .seats tag) ≡ true
   seat-busy is-busy = let (seat, there, is) = seat-of (m .seats tag) b here in ap isBusy there ∙ ap busy is ∙ is-busy
 
-  install-refused : (terminal : ℕ) (asked : List ℕ) → blindAt tag (does (install tag terminal asked) m cells .leaves) ≡ blindAt tag m
-  unfolding presentIn
-  install-refused terminal asked =
-      leaves-has (installRule tag terminal asked) m cells (λ (n : Model). blindAt tag n ≡ blindAt tag m) refl
-      (λ passed. never-both (isThere (m .seats tag)) present (installable tag terminal asked m cells passed .new))
-
   -- a busy blind is neither removed nor written anew
   busy-unedited : busy b ≡ true → (call : Call) → Unedited tag (record { call = call; cells = cells }) m
-  busy-unedited is-busy call removes done =
-      never-both (isBusy (m .seats tag)) (seat-busy is-busy)
-      (removable tag m cells (sym (answer-is (removeRule tag) m cells) ∙ done) .named .idle)
-  busy-unedited is-busy call (writes {asked}) done =
-      never-both (isBusy (m .seats tag)) (seat-busy is-busy)
-      (writable tag m cells asked (sym (answer-is (writeRule tag asked) m cells) ∙ done) .named .idle)
+  busy-unedited is-busy call =
+      record {
+        stays = λ e done.
+            never-both (isBusy (m .seats tag)) (seat-busy is-busy)
+            (removable tag m cells (sym (answer-is (removeRule tag) m cells) ∙ done-as e done) .named .idle);
+        unwritten = λ asked e done.
+            never-both (isBusy (m .seats tag)) (seat-busy is-busy)
+            (writable tag m cells asked (sym (answer-is (writeRule tag asked) m cells) ∙ done-as e done) .named .idle);
+      }
+    where
+      done-as : {other : Call} → call ≡ other → does call m cells .answer ≡ 0 → does other m cells .answer ≡ 0
+      done-as e = subst (λ (x : Call). does x m cells .answer ≡ 0) e
 
 -- ---- one call
 
@@ -156,31 +151,31 @@ module _ (tag : ℕ) (b : Blind) (m : Model) (cells : Cells) (a : Apart tag b m)
   pub call-passes : (call : Call) → Calm tag (record { call = call; cells = cells }) m → Unedited tag (record { call = call; cells = cells }) m
       → Apart tag (milliseconds (lasting (record { call = call; cells = cells }) m) b) (does call m cells .leaves)
   unfolding now
-  call-passes (telegram address value) calm left = told address value calm
-  call-passes (timeStep dt) calm left = stepped dt
-  call-passes strip calm left = stays strip refl (spared tag strip m cells tt .blind)
-  call-passes (install other terminal asked) calm left =
+  call-passes (telegram address value) calm unedited = told address value calm
+  call-passes (timeStep dt) calm unedited = stepped dt
+  call-passes strip calm unedited = stays strip refl (spared tag strip m cells tt .blind)
+  call-passes (install other terminal asked) calm unedited =
       stays (install other terminal asked) refl
       (same-or-other tag other
       (λ same.
       subst (λ (t : ℕ). blindAt tag (does (install t terminal asked) m cells .leaves) ≡ blindAt tag m) same
-      (install-refused tag now m cells (a .blind) terminal asked))
+      (install-leaves tag now m cells (a .blind) terminal asked))
       (λ apart. spared tag (install other terminal asked) m cells apart .blind))
-  call-passes (removeBlind other) calm left =
+  call-passes (removeBlind other) calm unedited =
       stays (removeBlind other) refl
       (same-or-other tag other
-      (λ same. refused-leaves tag m cells (removeBlind other) (left (subst (λ (t : ℕ). Changes tag (removeBlind t)) same removes)))
+      (λ same. refused-leaves tag m cells (removeBlind other) (unedited .stays (ap removeBlind (sym same))))
       (λ apart. spared tag (removeBlind other) m cells apart .blind))
-  call-passes (writeParams other asked) calm left =
+  call-passes (writeParams other asked) calm unedited =
       stays (writeParams other asked) refl
       (same-or-other tag other
-      (λ same. refused-leaves tag m cells (writeParams other asked) (left (subst (λ (t : ℕ). Changes tag (writeParams t asked)) same writes)))
+      (λ same. refused-leaves tag m cells (writeParams other asked) (unedited .unwritten asked (ap (λ (t : ℕ). writeParams t asked) (sym same))))
       (λ apart. spared tag (writeParams other asked) m cells apart .blind))
-  call-passes (addLink link) calm left = stays (addLink link) refl (add-blind tag m cells link)
-  call-passes (removeLink link) calm left = stays (removeLink link) refl (remove-link-blind tag m cells link)
-  call-passes (spliceIn t n) calm left = stays (spliceIn t n) refl (spared tag (spliceIn t n) m cells tt .blind)
-  call-passes (spliceOut t n) calm left = stays (spliceOut t n) refl (spared tag (spliceOut t n) m cells tt .blind)
-  call-passes inventory calm left = stays inventory refl (spared tag inventory m cells tt .blind)
+  call-passes (addLink link) calm unedited = stays (addLink link) refl (add-blind tag m cells link)
+  call-passes (removeLink link) calm unedited = stays (removeLink link) refl (remove-link-blind tag m cells link)
+  call-passes (spliceIn t n) calm unedited = stays (spliceIn t n) refl (spared tag (spliceIn t n) m cells tt .blind)
+  call-passes (spliceOut t n) calm unedited = stays (spliceOut t n) refl (spared tag (spliceOut t n) m cells tt .blind)
+  call-passes inventory calm unedited = stays inventory refl (spared tag inventory m cells tt .blind)
 
 -- ---- the milliseconds of a trace
 
@@ -224,22 +219,22 @@ within-later n t j run m w = let same : n - t - j ≡ n - (t + j) = omega arith 
 module _ (tag : ℕ) (b : Blind) where
   pub turn-passes : (turn : Turn) (t : ℕ) (m : Model) → Apart tag (milliseconds t b) m → Calm tag turn m → Unedited tag turn m
       → Apart tag (milliseconds (t + lasting turn m) b) (gives turn m .leaves)
-  turn-passes turn t m a calm left =
+  turn-passes turn t m a calm unedited =
       subst (λ (x : Blind). Apart tag x (gives turn m .leaves)) (sym (cut t (lasting turn m) b))
-      (call-passes tag (milliseconds t b) m (turn .cells) a (turn .call) calm left)
+      (call-passes tag (milliseconds t b) m (turn .cells) a (turn .call) calm unedited)
 
   -- what is left of the blind: its milliseconds passed
   pub calm-passes : (run : Run) (t : ℕ) (m : Model) → Apart tag (milliseconds t b) m → Each (Calm tag) run m → Each (Unedited tag) run m
       → Apart tag (milliseconds (t + duration run m) b) (after run m)
   unfolding after duration
-  calm-passes [] t m a calm left = subst (λ (k : ℕ). Apart tag (milliseconds k b) m) (sym (add-zero t)) a
-  calm-passes (turn ∷ run) t m a calm left =
+  calm-passes [] t m a calm unedited = subst (λ (k : ℕ). Apart tag (milliseconds k b) m) (sym (add-zero t)) a
+  calm-passes (turn ∷ run) t m a calm unedited =
       let next = gives turn m .leaves in
       let j = lasting turn m in
       let d = duration run next in
       let together : t + j + d ≡ t + (j + d) = omega arith in
       subst (λ (k : ℕ). Apart tag (milliseconds k b) (after run next)) together
-      (calm-passes run (t + j) next (turn-passes turn t m a (calm .0) (left .0)) (calm .1) (left .1))
+      (calm-passes run (t + j) next (turn-passes turn t m a (calm .0) (unedited .0)) (calm .1) (unedited .1))
 
 -- ---- a whole run, on a blind that is busy for n milliseconds
 
@@ -259,8 +254,8 @@ module _ (tag n : ℕ) (b : Blind) (busy-until : (k : ℕ) → k < n → busy (m
       let next = gives turn m .leaves in
       let j = lasting turn m in
       let begun : 0 < n - t = w .0 in
-      let unedited = turn-unedited turn t m (omega arith) a in
-      (unedited, within-unedited run (t + j) next (turn-passes tag b turn t m a (calm .0) unedited) (calm .1) (within-later n t j run next (w .1)))
+      let own = turn-unedited turn t m (omega arith) a in
+      (own, within-unedited run (t + j) next (turn-passes tag b turn t m a (calm .0) own) (calm .1) (within-later n t j run next (w .1)))
 
   -- what each millisecond finds, those of a step that runs past the n among them
   pub calm-trace : (run : Run) (t : ℕ) (m : Model) → Apart tag (milliseconds t b) m → Each (Calm tag) run m

@@ -2,31 +2,27 @@
 -- written.
 -- Assumes nothing.
 use Prim.Native.Nat.{ℕ}
-use native.Mathlib.Decide.{ℕ-discrete}
 use mathlib.Core.Path.{_≡_, refl, sym, ap, _∙_, subst}
 use mathlib.Core.Bool.{Bool, true, false, cond}
 use mathlib.Core.List.{List}
 use mathlib.Core.Option.{Option, some, Option·map}
 use lib.Dec.{eqb}
-use Rattle.laws.proofs.Choices.{never-both}
-use Rattle.answers.specs.Rules.{Result}
-use Rattle.answers.proofs.Rules.{refused, leaves-has}
+use Rattle.laws.proofs.Choices.{same-or-other}
+use Rattle.answers.proofs.Rules.{leaves-has}
 use Rattle.params.specs.Numbers.{paramsOf}
 use Rattle.blind.specs.declared.Blind.{Blind}
 use Rattle.milliseconds.specs.Milliseconds.{milliseconds}
 use Rattle.rules.specs.Edits.{rewritten}
-use Rattle.panel.specs.Panel.{Seat, Model, presentIn, isThere}
+use Rattle.panel.specs.Panel.{Seat, Model}
 use Rattle.panel.specs.Sound.{Fine}
 use Rattle.panel.specs.Calls.{Cells}
 use Rattle.telegrams.specs.Locality.{reached, heardBy}
 use Rattle.seats.specs.Untouched.{blindAt}
-use Rattle.installs.specs.Installs.{installRule}
-use Rattle.installs.proofs.Passed.{installable}
 use Rattle.writes.specs.Writes.{seatRewritten, writeRule}
-use Rattle.demands.specs.Calls.{Call, telegram, timeStep, strip, install, removeBlind, writeParams, addLink, removeLink, spliceIn, spliceOut, inventory, ruleOf, does}
+use Rattle.demands.specs.Calls.{Call, telegram, timeStep, strip, install, removeBlind, writeParams, addLink, removeLink, spliceIn, spliceOut, inventory, does}
 use Rattle.demands.specs.Demand2.{Stays}
 use Rattle.demands.proofs.Seats.{seat-of, reseated-blind}
-use Rattle.demands.proofs.Alike.{spared, add-blind, remove-link-blind}
+use Rattle.demands.proofs.Alike.{spared, refused-leaves, install-leaves, add-blind, remove-link-blind}
 use Rattle.demands.proofs.BlindSeen.{telegram-seen, step-seen}
 
 pub data Change (tag : ℕ) (m : Model) (call : Call) (b : Blind) : Blind → Type 0 where
@@ -48,14 +44,6 @@ chosen false b new c = kept
 left-alone : (tag : ℕ) (call : Call) (b : Blind) (m n : Model) → blindAt tag m ≡ some b → blindAt tag n ≡ blindAt tag m → Turned tag m call b n
 left-alone tag call b m n here same = record { now = b; blind = same ∙ here; change = kept }
 
--- a call that gives a tag, which may or may not be this one
-same-or-spared : {A : Type 0} (tag other : ℕ) → (tag ≡ other → A) → ((tag ≡ other → ⊥) → A) → A
-same-or-spared {A} tag other same apart = go (ℕ-discrete tag other)
-  where
-    go : Dec (tag ≡ other) → A
-    go (yes e) = same e
-    go (no h) = apart h
-
 module _ (tag : ℕ) (b : Blind) (m : Model) (cells : Cells) (here : blindAt tag m ≡ some b) where
   abbrev After : Call → Type 0
   After call = Turned tag m call b (does call m cells .leaves)
@@ -64,18 +52,7 @@ module _ (tag : ℕ) (b : Blind) (m : Model) (cells : Cells) (here : blindAt tag
   spared-turned call same = left-alone tag call b m _ here same
 
   refused-turned : (call : Call) → (does call m cells .answer ≡ 0 → ⊥) → After call
-  refused-turned call h = spared-turned call (ap (λ (r : Result Model Cells). blindAt tag (r .leaves)) (refused (ruleOf call) m cells h))
-
-  -- nobody can be installed at a tag that has a blind
-  install-refused : (terminal : ℕ) (asked : List ℕ) → After (install tag terminal asked)
-  unfolding presentIn
-  install-refused terminal asked =
-      spared-turned (install tag terminal asked)
-      (leaves-has (installRule tag terminal asked) m cells (λ (n : Model). blindAt tag n ≡ blindAt tag m) refl
-      (λ e. never-both (isThere (m .seats tag)) present (installable tag terminal asked m cells e .new)))
-    where
-      present : isThere (m .seats tag) ≡ true
-      present = let (seat, there, is) = seat-of (m .seats tag) b here in ap isThere there
+  refused-turned call h = spared-turned call (refused-leaves tag m cells call h)
 
   write-turned : (asked : List ℕ) → After (writeParams tag asked)
   unfolding writeRule
@@ -106,15 +83,17 @@ module _ (tag : ℕ) (b : Blind) (m : Model) (cells : Cells) (here : blindAt tag
       }
   call-turned fine strip stays = spared-turned strip (spared tag strip m cells tt .blind)
   call-turned fine (install other terminal asked) stays =
-      same-or-spared tag other
-      (λ same. subst (λ (t : ℕ). After (install t terminal asked)) same (install-refused terminal asked))
+      same-or-other tag other
+      (λ same.
+      subst (λ (t : ℕ). After (install t terminal asked)) same
+      (spared-turned (install tag terminal asked) (install-leaves tag b m cells here terminal asked)))
       (λ apart. spared-turned (install other terminal asked) (spared tag (install other terminal asked) m cells apart .blind))
   call-turned fine (removeBlind other) stays =
-      same-or-spared tag other
+      same-or-other tag other
       (λ same. refused-turned (removeBlind other) (stays (ap removeBlind (sym same))))
       (λ apart. spared-turned (removeBlind other) (spared tag (removeBlind other) m cells apart .blind))
   call-turned fine (writeParams other asked) stays =
-      same-or-spared tag other
+      same-or-other tag other
       (λ same. subst (λ (t : ℕ). After (writeParams t asked)) same (write-turned asked))
       (λ apart. spared-turned (writeParams other asked) (spared tag (writeParams other asked) m cells apart .blind))
   call-turned fine (addLink link) stays = spared-turned (addLink link) (add-blind tag m cells link)

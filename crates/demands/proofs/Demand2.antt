@@ -11,8 +11,7 @@ use lib.Dec.{eqb}
 use borrow.Author.Tests.{eqb-true, ltb-false}
 use Rattle.laws.proofs.Choices.{cond-has, never-both, same-or-other}
 use Rattle.answers.specs.Answers.{refusal}
-use Rattle.answers.specs.Rules.{Result}
-use Rattle.answers.proofs.Rules.{answer-is, refused, leaves-has}
+use Rattle.answers.proofs.Rules.{answer-is, leaves-has}
 use Rattle.heights.specs.declared.Direction.{Direction}
 use Rattle.runs.specs.Orders.{isLast}
 use Rattle.blind.specs.declared.Motion.{Motion}
@@ -27,7 +26,7 @@ use Rattle.rules.specs.Edits.{rewritten}
 use Rattle.conduct.proofs.SoundCourses.{heeded-sound, input-of-class}
 use Rattle.conduct.proofs.Owed.{owed, owedAt, heeded-keeps}
 use Rattle.link.specs.declared.Link.{Link}
-use Rattle.panel.specs.Panel.{Seat, Model, presentIn, isThere, eachSeat, onBlind}
+use Rattle.panel.specs.Panel.{Seat, Model, eachSeat, onBlind}
 use Rattle.panel.specs.Sound.{Sound, Fine}
 use Rattle.panel.specs.Calls.{Cells}
 use Rattle.time_steps.specs.TimeSteps.{afterStep}
@@ -40,16 +39,14 @@ use Rattle.time_steps.proofs.Soundness.{step-sound}
 use Rattle.seats.specs.Seats.{isBusy}
 use Rattle.seats.specs.Untouched.{blindAt}
 use Rattle.params.specs.Numbers.{paramsOf}
-use Rattle.installs.specs.Installs.{installRule}
-use Rattle.installs.proofs.Passed.{installable}
 use Rattle.writes.specs.Writes.{seatRewritten, writeRule}
 use Rattle.writes.proofs.Passed.{writable}
-use Rattle.demands.specs.Calls.{Call, telegram, timeStep, strip, install, removeBlind, writeParams, addLink, removeLink, spliceIn, spliceOut, inventory, ruleOf, does}
+use Rattle.demands.specs.Calls.{Call, telegram, timeStep, strip, install, removeBlind, writeParams, addLink, removeLink, spliceIn, spliceOut, inventory, does}
 use Rattle.demands.specs.Runs.{Run, Each, gives, lasts, lasting}
 use Rattle.demands.specs.Demand2.{Moment, pauseIn, moments, trace, Stays, Paused}
 use Rattle.demands.proofs.Seats.{seat-of, reseated-blind}
 use Rattle.demands.proofs.Soundness.{kept-fine}
-use Rattle.demands.proofs.Alike.{spared, add-blind, remove-link-blind}
+use Rattle.demands.proofs.Alike.{spared, refused-leaves, install-leaves, add-blind, remove-link-blind}
 use Rattle.demands.proofs.BlindSeen.{telegram-seen, step-seen}
 use Rattle.demands.proofs.MotorSeen.{motor-seen}
 use Rattle.demands.proofs.Pauses.{Fair, none-fair, more-owed, momentsIn, step-fair}
@@ -115,11 +112,6 @@ as-it-was tag b m e = record { now = b; blind = e; owes = λ d. le-refl _ }
 left-alone : (tag : ℕ) (b : Blind) (m n : Model) → blindAt tag m ≡ some b → blindAt tag n ≡ blindAt tag m → Later tag b n
 left-alone tag b m n e same = as-it-was tag b n (same ∙ e)
 
--- a call that is refused leaves the blind
-pub refused-leaves : (tag : ℕ) (m : Model) (cells : Cells) (call : Call) → (does call m cells .answer ≡ 0 → ⊥)
-    → blindAt tag (does call m cells .leaves) ≡ blindAt tag m
-refused-leaves tag m cells call h = ap (λ (r : Result Model Cells). blindAt tag (r .leaves)) (refused (ruleOf call) m cells h)
-
 -- a telegram that is done carries a byte
 accepted-byte : (address value : ℕ) (m : Model) (cells : Cells) → refusal (telegramRule address value .checks m cells) ≡ 0 → value ≤ 255
 unfolding telegramRule
@@ -146,16 +138,8 @@ module _ (tag : ℕ) (b : Blind) (m : Model) (cells : Cells) (here : blindAt tag
             (λ refused. le-refl _);
       }
 
-  -- nobody can be installed at a tag that has a blind
   later-install : (terminal : ℕ) (asked : List ℕ) → Later tag b (does (install tag terminal asked) m cells .leaves)
-  unfolding presentIn
-  later-install terminal asked =
-      left-alone tag b m _ here
-      (leaves-has (installRule tag terminal asked) m cells (λ (n : Model). blindAt tag n ≡ blindAt tag m) refl
-      (λ passed. never-both (isThere (m .seats tag)) present (installable tag terminal asked m cells passed .new)))
-    where
-      present : isThere (m .seats tag) ≡ true
-      present = let (seat, there, is) = seat-of (m .seats tag) b here in ap isThere there
+  later-install terminal asked = left-alone tag b m _ here (install-leaves tag b m cells here terminal asked)
 
   -- parameters are written only while nothing is owed
   later-write : (asked : List ℕ) → Later tag b (does (writeParams tag asked) m cells .leaves)

@@ -40,7 +40,7 @@ use Rattle.demands.specs.Calm.{Calm, Unedited, heard, EndsAt}
 use Rattle.demands.proofs.Soundness.{kept-fine}
 use Rattle.demands.proofs.BlindSeen.{telegram-seen}
 use Rattle.demands.proofs.Calm.{Apart}
-use Rattle.demands.proofs.Waiting.{blind-sound, motion-then, pauses-then, left, short}
+use Rattle.demands.proofs.Waiting.{blind-sound, motion-then, pauses-then, left, order-unedited}
 use Rattle.demands.proofs.OneLink.{one-link}
 use Rattle.demands.proofs.Tells.{run-tells}
 
@@ -69,7 +69,7 @@ module _ (tag : ℕ) (run : Run) (b : Blind) (m : Model) (fine : Fine m) (here :
   left-now = left tag run b m fine here order on calm
 
   soon : duration run m < untilEnd (b .motion) → Each (Unedited tag) run m
-  soon = short tag run b m fine here order on calm
+  soon = order-unedited tag run b m fine here order on calm
 
   -- Any run that is on, of any goal: it ends where its milliseconds lead, after exactly its time.
   pub run-ends : EndsAt (milliseconds (untilEnd (b .motion)) b .place) tag b run m

@@ -21,7 +21,7 @@ use Rattle.duties.specs.Rulers.{dutyOf, isFree}
 use Rattle.values.specs.declared.Input.{Input}
 use Rattle.rules.specs.Rules.{heeded}
 use Rattle.conduct.specs.Ends.{untilEnd}
-use Rattle.conduct.proofs.Phases.{active-is}
+use Rattle.conduct.proofs.Phases.{engaged-in, active-is}
 use Rattle.conduct.proofs.Finished as ofOne
 use Rattle.link.specs.Link.{nothing}
 use Rattle.panel.specs.Panel.{Model}
@@ -34,7 +34,7 @@ use Rattle.demands.specs.Runs.{Turn, Run, Each, duration, reportOf, repo
 use Rattle.demands.specs.Calm.{Calm, Unedited, heard}
 use Rattle.demands.specs.Finished.{Reports}
 use Rattle.demands.proofs.Soundness.{kept-fine}
-use Rattle.demands.proofs.Waiting.{blind-sound}
+use Rattle.demands.proofs.Waiting.{blind-sound, order-unedited}
 use Rattle.demands.proofs.Endings.{aims, aims-reported}
 use Rattle.demands.proofs.Tells.{tells, said, said-if, said-append, run-tells}
 
@@ -63,8 +63,14 @@ module _ (tag address v : ℕ) (b : Blind) (m : Model) (cells : Cells) (fine : F
       (aims-reported tag address v b m cells fine here done i linked kind ∙ ofOne.telegram-reports v b above below free known s)
       ∙ said-if (active b && there) (v + 256) (omega arith)
 
+  then-fine : Fine then
+  then-fine = kept-fine (telegram address v) m cells fine
+
+  then-aims : blindAt tag then ≡ some c
+  then-aims = aims tag address v b m cells fine here done i linked kind
+
   c-sound : ofBlind.Sound c
-  c-sound = blind-sound tag c then (kept-fine (telegram address v) m cells fine) (aims tag address v b m cells fine here done i linked kind)
+  c-sound = blind-sound tag c then then-fine then-aims
 
   -- the telegram's own cell: nothing where a run is to be made,
   own-silent : there ≡ false → said (reportOf tag (does (telegram address v) m cells) ∷ []) ≡ []
@@ -91,18 +97,22 @@ module _ (tag address v : ℕ) (b : Blind) (m : Model) (cells : Cells) (fine : F
   away-while false e h = e
   away-while true e h = never-both (ltb 0 (untilEnd (c .motion))) (lt-ltb 0 (untilEnd (c .motion)) h) (lasts ∙ ap not e)
 
-  module _ (run : Run) (calm : Each (Calm tag) run then) (left : Each (Unedited tag) run then) where
-    -- the cells after it
-    later : heard tag run then ≡ cond (not there && leb (untilEnd (c .motion)) (duration run then)) ((v + 256) ∷ []) []
-    later =
-        run-tells tag c c-sound run then (kept-fine (telegram address v) m cells fine)
-        (aims tag address v b m cells fine here done i linked kind) calm left
-        ∙ ap₂ (λ (t : Bool) (n : ℕ). cond (t && leb (untilEnd (c .motion)) (duration run then)) (n ∷ []) []) lasts
-        (ofOne.end-told v b above below free known s)
+  module _ (run : Run) (calm : Each (Calm tag) run then) where
+    -- while the run lasts no edit is accepted that would change the blind
+    meanwhile : duration run then < untilEnd (c .motion) → Each (Unedited tag) run then
+    unfolding active milliseconds
+    meanwhile h =
+        let (order, on) = engaged-in (c .motion) (active-is c c-sound 0 ∙ lt-ltb 0 (untilEnd (c .motion)) (omega arith)) in
+        order-unedited tag run c then then-fine then-aims order on calm h
 
-    later-as : {met over : Bool} → there ≡ met → leb (untilEnd (c .motion)) (duration run then) ≡ over
+    -- the cells after it
+    later : {met over : Bool} → there ≡ met → leb (untilEnd (c .motion)) (duration run then) ≡ over → Each (Unedited tag) run then
         → heard tag run then ≡ cond (not met && over) ((v + 256) ∷ []) []
-    later-as met over = later ∙ ap₂ (λ (t l : Bool). cond (not t && l) ((v + 256) ∷ []) []) met over
+    later {met} {over} e f unedited =
+        run-tells tag c c-sound run then then-fine then-aims calm unedited
+        ∙ ap₂ (λ (t : Bool) (n : ℕ). cond (t && leb (untilEnd (c .motion)) (duration run then)) (n ∷ []) []) (lasts ∙ ap not e)
+        (ofOne.end-told v b above below free known s)
+        ∙ ap (λ (l : Bool). cond (not met && l) ((v + 256) ∷ []) []) f
 
     heard-after : {more : List ℕ} → there ≡ false → heard tag run then ≡ more → heard tag (sent ∷ run) m ≡ more
     unfolding said tells reportsOf
@@ -116,19 +126,17 @@ module _ (tag address v : ℕ) (b : Blind) (m : Model) (cells : Cells) (fine : F
         record {
           silent-before = λ h.
               let away = away-while there refl (omega arith) in
-              heard-after away (later-as away (lt-leb (untilEnd (c .motion)) (duration run then) h));
-          told-once = λ other over.
+              heard-after away (later away (lt-leb (untilEnd (c .motion)) (duration run then) h) (meanwhile h));
+          told-once = λ other over unedited.
               let away = ne-eqb (b .place .position) (target v (b .params)) other in
-              heard-after away (later-as away (le-leb (untilEnd (c .motion)) (duration run then) over));
-          told-at-once = λ e.
-              let met = eq-eqb (b .place .position) (target v (b .params)) e in
-              (own-told met, later-as met refl);
+              heard-after away (later away (le-leb (untilEnd (c .motion)) (duration run then) over) unedited);
+          told-at-once = λ e. own-told (eq-eqb (b .place .position) (target v (b .params)) e);
+          silent-after = λ e unedited. later (eq-eqb (b .place .position) (target v (b .params)) e) refl unedited;
         }
 
   -- A finished run to v reports v, once, whatever the blind did before the telegram and whatever comes after it that does not disturb it.
   pub reports-v : (now : Blind) → blindAt tag (does (telegram address v) m cells .leaves) ≡ some now
-      → (run : Run) → Each (Calm tag) run (does (telegram address v) m cells .leaves) → Each (Unedited tag) run (does (telegram address v) m cells .leaves)
+      → (run : Run) → Each (Calm tag) run (does (telegram address v) m cells .leaves)
       → Reports v tag b now (record { call = telegram address v; cells = cells }) run m
-  reports-v now is run calm left =
-      subst (λ (x : Blind). Reports v tag b x sent run m)
-      (Option·some-injective c now (sym (aims tag address v b m cells fine here done i linked kind) ∙ is)) (reported run calm left)
+  reports-v now is run calm =
+      subst (λ (x : Blind). Reports v tag b x sent run m) (Option·some-injective c now (sym then-aims ∙ is)) (reported run calm)

@@ -152,19 +152,19 @@ module _ (tag : ℕ) (b : Blind) (s : ofBlind.Sound b) where
   tells-from : (run : Run) (t : ℕ) (m : Model) → Apart tag (milliseconds t b) m → Each (Calm tag) run m → Each (Unedited tag) run m
       → said (reportsOf tag run m) ≡ said (report (milliseconds t b) (milliseconds (t + duration run m) b) ∷ [])
   unfolding reportsOf duration said kept
-  tells-from [] t m a calm left =
+  tells-from [] t m a calm unedited =
       sym (said-none _ (ap (λ (k : ℕ). report (milliseconds t b) (milliseconds k b)) (add-zero t) ∙ report-same (milliseconds t b)))
-  tells-from (turn ∷ run) t m a calm left =
+  tells-from (turn ∷ run) t m a calm unedited =
       let next = gives turn m .leaves in
       let j = lasting turn m in
       let d = duration run next in
       let together : t + j + d ≡ t + (j + d) = omega arith in
-      let later = turn-passes tag b turn t m a (calm .0) (left .0) in
+      let later = turn-passes tag b turn t m a (calm .0) (unedited .0) in
       said-append (reportIn tag (turn .call) (gives turn m)) (reportsOf tag run next)
       ∙ ap₂ (λ (xs ys : List ℕ). xs ++ ys)
       (call-tells tag (milliseconds t b) m (turn .cells) a (turn .call) (calm .0)
       ∙ ap (λ (x : Blind). said (report (milliseconds t b) x ∷ [])) (sym (cut t j b)))
-      (tells-from run (t + j) next later (calm .1) (left .1))
+      (tells-from run (t + j) next later (calm .1) (unedited .1))
       ∙ parts t (t + j) (t + j + d) (omega arith) (omega arith)
       ∙ ap (λ (k : ℕ). said (report (milliseconds t b) (milliseconds k b) ∷ [])) together
 
@@ -175,8 +175,8 @@ module _ (tag : ℕ) (b : Blind) (s : ofBlind.Sound b) where
       ≡ cond (ltb 0 (untilEnd (b .motion)) && leb (untilEnd (b .motion)) (duration run m))
       (told (b .params) (milliseconds (untilEnd (b .motion)) b .place) ∷ []) []
   unfolding said tells milliseconds
-  run-tells run m fine here calm left =
-      tells-from run 0 m (at-first tag b m fine here) calm left
+  run-tells run m fine here calm unedited =
+      tells-from run 0 m (at-first tag b m fine here) calm unedited
       ∙ ap (λ (k : ℕ). said (report b (milliseconds k b) ∷ [])) (zero-add (duration run m))
       ∙ ap (λ (n : ℕ). said (n ∷ [])) (stretch-reports b s 0 (duration run m) zero-le)
       ∙ said-if (ltb 0 (untilEnd (b .motion)) && leb (untilEnd (b .motion)) (duration run m)) _ (told-most (b .params) (milliseconds (untilEnd (b .motion)) b .place))

@@ -65,8 +65,8 @@ module _ (tag : ℕ) (run : Run) (b : Blind) (m : Model) (fine : Fine m) (here :
       (subst (λ (n : ℕ). Within n run m) (sym (sub-zero (untilEnd (b .motion) + b .params .rpt))) w)
 
   -- so while the order lasts there is none
-  pub short : duration run m < untilEnd (b .motion) → Each (Unedited tag) run m
-  short h = pause-unedited (short-within (untilEnd (b .motion) + b .params .rpt) run m (omega arith))
+  pub order-unedited : duration run m < untilEnd (b .motion) → Each (Unedited tag) run m
+  order-unedited h = pause-unedited (short-within (untilEnd (b .motion) + b .params .rpt) run m (omega arith))
 
   -- the blind after the run, apart from its flags
   pub left : Each (Unedited tag) run m → Apart tag (milliseconds (duration run m) b) (after run m)
@@ -110,7 +110,7 @@ module _ (tag : ℕ) (run : Run) (b : Blind) (m : Model) (fine : Fine m) (here :
   does-then w = motion-then tag (milliseconds (duration run m) b) (after run m) (left tag run b m fine here order on calm w)
 
   so-far : duration run m < rest + order .length → Each (Unedited tag) run m
-  so-far h = short tag run b m fine here order on calm (subst (λ (u : ℕ). duration run m < u) (sym whole) h)
+  so-far h = order-unedited tag run b m fine here order on calm (subst (λ (u : ℕ). duration run m < u) (sym whole) h)
 
   -- And what the blind does at the end of any such run.
   pub order-keeps : Keeps rest order (b .params .rpt) tag run m

@@ -20,9 +20,9 @@ use Rattle.conduct.specs.Ends.{untilEnd}
 use Rattle.panel.specs.Panel.{Model}
 use Rattle.telegrams.specs.Locality.{reached}
 use Rattle.seats.specs.Untouched.{blindAt}
-use Rattle.demands.specs.Calls.{Call, telegram, removeBlind, writeParams}
+use Rattle.demands.specs.Calls.{telegram, writeParams}
 use Rattle.demands.specs.Runs.{Turn, Run, Each, gives, after, lasting, duration, reportsOf}
-use Rattle.demands.specs.Demand2.{Moment, Unheeded}
+use Rattle.demands.specs.Demand2.{Moment, Stays, Unheeded}
 
 -- "No accepted telegram disturbs the blind." Every other call may come, done or refused, and every refused telegram.
 abbrev pub Calm : ℕ → Turn → Model → Type 0
@@ -30,14 +30,11 @@ Calm tag turn m =
     (address value : ℕ) (b : Blind) → turn .call ≡ telegram address value → gives turn m .answer ≡ 0 → blindAt tag m ≡ some b
     → Unheeded value (reached tag address m) b
 
--- The edits that change a blind themselves: the removal of its tag, and a write of its parameters.
-pub data Changes (tag : ℕ) : Call → Type 0 where
-  removes : Changes tag (removeBlind tag)
-  writes : {asked : List ℕ} → Changes tag (writeParams tag asked)
-
--- "No such edit is accepted." Every refused one may come, and every other edit, those of the blind's own links among them.
-abbrev pub Unedited : ℕ → Turn → Model → Type 0
-Unedited tag turn m = Changes tag (turn .call) → gives turn m .answer ≡ 0 → ⊥
+-- No accepted edit removes the blind or writes its parameters. An install at its tag is refused while it stands, and an edit of its links
+-- leaves it.
+pub record Unedited (tag : ℕ) (turn : Turn) (m : Model) : Type 0 where
+  pub stays : Stays tag turn m
+  pub unwritten : (asked : List ℕ) → turn .call ≡ writeParams tag asked → gives turn m .answer ≡ 0 → ⊥
 
 -- Each call of a run begins before so many of its milliseconds are gone; the last may run past them. A shorter run is always so.
 abbrev pub Within : ℕ → Run → Model → Type 0
@@ -83,7 +80,8 @@ pub record Keeps (rest : ℕ) (order : ofRuns.Run) (pause tag : ℕ) (run : Run)
 -- ---- the end of a run
 
 -- A blind that runs or waits ends its run at a place after exactly its time: until then it runs or waits, and no cell tells of it;
--- then it stands at the place and rests for the pause, and of all cells that the run filled for it one tells that place.
+-- then, as long as no accepted edit changes it, it stands at the place and rests for the pause, and of all cells that the run filled for
+-- it one tells that place.
 pub record EndsAt (place : Place) (tag : ℕ) (b : Blind) (run : Run) (m : Model) : Type 0 where
   pub on-before : duration run m < untilEnd (b .motion) → activeSeen tag (after run m) ≡ some true
   pub silent-before : duration run m < untilEnd (b .motion) → heard tag run m ≡ []

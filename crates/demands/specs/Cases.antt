@@ -56,7 +56,7 @@ w1 = fresh ++ (plain (MUD 0) ∷ look (timeStep 499) off ∷ look (timeStep 1) u
 abbrev pub w2 : List Line
 w2 = w1 ++ (look (timeStep 59999) up ∷ look (timeStep 1) (both off (reports 256)) ∷ [])
 
--- "Then SAPBP 128 at once: off; 500 ms: down; 30,117 ms: off, report 384", as K2 has it.
+-- "Then SAPBP 128 at once: off; 500 ms: down; 30,117 ms: off, report" 384, as K2 has it.
 abbrev pub w3 : List Line
 w3 = w2 ++ (look (SAPBP 128) off ∷ ends 500 off down ∷ ends 30117 down (both off (reports 384)) ∷ [])
 

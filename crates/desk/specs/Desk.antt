@@ -68,7 +68,7 @@ editRule (Edit.Unlink address tag kind) = removeLinkRule (linkOf address tag kin
 editRule (Edit.In t n) = spliceInRule t n
 editRule (Edit.Out t n) = spliceOutRule t n
 
--- "`0 PERCENT`, for a RAW above 255 `1 0`."
+-- "0 and the per cent for a RAW of 0 to 255, `1 0` for any other."
 unfoldable pub percentText : ℕ → List ℕ
 percentText raw = cond (leb raw 255) (counted 0 (percentOf raw)) (counted 1 0)
 

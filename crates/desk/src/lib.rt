@@ -130,7 +130,7 @@ fn read_strip(panel: Panel, out: &mut [u8], at: usize) -> After
     tell_cells(done, OFF as u16, &shown, out, at)
 }
 
-// What a display shows for a byte; there is none above the last.
+// What a display shows for a byte; a number above it is out of range.
 fn tell_percent(panel: Panel, raw: u64, out: &mut [u8], at: usize) -> After
     ensures { λ r. ⌜ deskOf r (now (out .exit)) ≡ carriedOut (Command.Percent raw) (modelOf panel) (sheet (now (out .entry)) at) ⌝ }
 {

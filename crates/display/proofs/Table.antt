@@ -1,4 +1,4 @@
--- The per cent of a report: the nearest whole number, and never falling.
+-- The entries of the table, which are `percentOf` by the promise of `percent`: the nearest whole numbers, and never falling.
 -- Assumes nothing.
 use Prim.Native.Nat.{ℕ, _*_, _≤_}
 use native.Mathlib.Omega.{arith}

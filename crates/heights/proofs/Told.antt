@@ -7,8 +7,8 @@ use mathlib.Core.Path.{_≡_, ap, _∙_}
 use mathlib.Core.Bool.{true}
 use lib.Dec.{eqb}
 use borrow.Author.Tests.{eq-eqb, ne-eqb, eqb-true}
-use Rattle.laws.specs.Nearest.{nearest}
-use Rattle.laws.proofs.Nearest.{nearest-is}
+use Rattle.laws.specs.Nearest.{nearest, Nearest}
+use Rattle.laws.proofs.Nearest.{nearest-is, nearest-only}
 use Rattle.laws.proofs.Choices.{cond-has}
 use Rattle.params.specs.declared.Params.{Params}
 use Rattle.params.specs.Parameters.{SoundParams}
@@ -35,13 +35,20 @@ told-most p place =
 pub told-fits : (position lowest n : ℕ) → n ≡ raw position lowest → n + 256 < 2 ^ 64
 told-fits position lowest n e = omega (arith, raw-byte position lowest)
 
--- ---- "0 means exactly at the top and 255 exactly at the bottom"
+-- ---- "0 means exactly at the top and 255 exactly at the bottom; between, it is the nearest whole number .., kept within 1 to 254"
 
--- short of both ends neither is told
+-- Between the ends it is the nearest part of the way, kept within 1 to 254,
 pub between-told : (position lowest : ℕ) → (position ≡ 0 → ⊥) → (position ≡ lowest → ⊥)
     → raw position lowest ≡ keptBetween (nearest (position * 255) lowest)
 unfolding raw
 between-told position lowest below above = rw (ne-eqb position 0 below, ne-eqb position lowest above)
+
+-- which says without a division: kept within these, the one number that is nearest is told.
+pub raw-nearest : (r position lowest : ℕ) → 0 < position → position < lowest → Nearest r (position * 255) lowest
+    → raw position lowest ≡ keptBetween r
+raw-nearest r position lowest below above near =
+    between-told position lowest (λ e. omega arith) (λ e. omega arith)
+    ∙ ap keptBetween (nearest-only r (position * 255) lowest (omega arith) near)
 
 pub top-told : (position lowest : ℕ) → (raw position lowest ≡ 0 → position ≡ 0) × (position ≡ 0 → raw position lowest ≡ 0)
 unfolding raw
@@ -62,10 +69,9 @@ bottom-told position lowest some = (
 
 -- ---- "a finished run to v .. reports v for every v from 1 to 254"
 
--- A height less than w below the target of v is told by v, if 1000 · w is at most the lower end.
-pub near-told : (v h w lowest : ℕ) → 0 < w → 1000 * w ≤ lowest → 1 ≤ v → v ≤ 254 → h ≤ v * lowest / 255 → v * lowest / 255 < h + w
-    → raw h lowest ≡ v
-near-told v h w lowest some small low high above below =
+-- A height that falls short of the target of v by less than w is told by v, if 1000 · w is at most the lower end.
+pub near-told : (v h w lowest : ℕ) → 1000 * w ≤ lowest → 1 ≤ v → v ≤ 254 → h ≤ v * lowest / 255 → v * lowest / 255 < h + w → raw h lowest ≡ v
+near-told v h w lowest small low high above below =
     let least : 1 * lowest ≤ v * lowest = mul-le-mul-right lowest low in
     let most : v * lowest ≤ 254 * lowest = mul-le-mul-right lowest high in
     between-told h lowest (λ e. omega arith) (λ e. omega arith)
@@ -77,4 +83,4 @@ pub target-told : (v : ℕ) (p : Params) (place : Place) → SoundParams p → 1
     → told p (withPosition (target v p) place) ≡ v + 256
 unfolding told target bottom
 target-told v p place s low high known =
-    rw (known, near-told v (v * bottom p / 255) 1 (bottom p) (omega arith) (omega (arith, s .mudt-least)) low high (omega arith) (omega arith))
+    rw (known, near-told v (v * bottom p / 255) 1 (bottom p) (omega (arith, s .mudt-least)) low high (omega arith) (omega arith))

@@ -23,10 +23,10 @@ pub enum Way {
     Go(Direction, u32),
 }
 
-// The lower end as a byte.
-const LOWEST: u64 = 255;
+// The lower end as a byte; the upper end is 0.
+const BOTTOM_BYTE: u64 = 255;
 
-// What is told between the ends, as a byte.
+// The least and the most that is told between the ends.
 const LEAST: u64 = 1;
 
 const MOST: u64 = 254;
@@ -68,7 +68,7 @@ pub fn end(direction: Direction, params: Params) -> Place
 pub fn target(v: u8, params: Params) -> u32
     ensures { λ r. ⌜ r ≡ target v params ⌝ }
 {
-    let far = v as u64 * bottom(params) as u64 / LOWEST;
+    let far = v as u64 * bottom(params) as u64 / BOTTOM_BYTE;
     far as u32
 }
 
@@ -115,8 +115,8 @@ impl Place {
     pub fn told(self, params: Params) -> u64
         ensures { λ r. ⌜ r ≡ told params self ⌝ }
     {
-        let raw = raw(self.position, bottom(params));
-        if self.valid { raw + VALID } else { raw }
+        let byte = raw(self.position, bottom(params));
+        if self.valid { byte + VALID } else { byte }
     }
 }
 
@@ -143,12 +143,12 @@ fn raw(position: u32, bottom: u32) -> u64
         return 0;
     }
     if position == bottom {
-        return LOWEST;
+        return BOTTOM_BYTE;
     }
     kept_between(nearest_part(position, bottom))
 }
 
-// A lower end of 0 is no sound blind's, but it must not be divided by.
+// The nearest of the parts of the way. A lower end of 0 is no sound blind's, but it must not be divided by.
 fn nearest_part(position: u32, bottom: u32) -> u64
     ensures { λ r. ⌜ r ≡ nearest (position * 255) bottom ⌝ }
 {
@@ -156,13 +156,13 @@ fn nearest_part(position: u32, bottom: u32) -> u64
         return 0;
     }
     let whole = bottom as u64;
-    let parts = position as u64 * LOWEST;
+    let parts = position as u64 * BOTTOM_BYTE;
     let part = parts / whole;
     let left = parts % whole;
     if whole <= 2 * left { part + 1 } else { part } // a half goes up
 }
 
-// No end is told short of it.
+// Short of an end neither 0 nor 255 is told.
 fn kept_between(part: u64) -> u64
     ensures { λ r. ⌜ r ≡ keptBetween part ⌝ }
 {
