@@ -8,6 +8,7 @@ use answers::OUT_OF_RANGE;
 use commands::Command;
 use commands::Edit;
 use decimals::put_number;
+use display::ENTRIES;
 use display::percent;
 use installs::install;
 use outputs::NO_REPORT;
@@ -36,9 +37,6 @@ ghost use Rattle.panel.specs.Panel.{modelOf};
 ghost use Rattle.panel.specs.Calls.{row, noCells, handed};
 ghost use Rattle.texts.specs.Sheet.{sheet};
 ghost use Rattle.desk.specs.Desk.{deskOf, edited, celled, editRule, carriedOut};
-
-// The largest byte that a report tells.
-const LAST_BYTE: u64 = 255;
 
 // The panel as a command leaves it, and how far the sheet is written.
 pub struct After {
@@ -130,11 +128,11 @@ fn read_strip(panel: Panel, out: &mut [u8], at: usize) -> After
     tell_cells(done, OFF as u16, &shown, out, at)
 }
 
-// What a display shows for a byte; a number above it is out of range.
+// What a display shows for a byte; a number without an entry is out of range.
 fn tell_percent(panel: Panel, raw: u64, out: &mut [u8], at: usize) -> After
     ensures { λ r. ⌜ deskOf r (now (out .exit)) ≡ carriedOut (Command.Percent raw) (modelOf panel) (sheet (now (out .entry)) at) ⌝ }
 {
-    let next = if raw <= LAST_BYTE {
+    let next = if raw < ENTRIES as u64 {
         put_counted(out, at, DONE, percent(raw as u8) as u64)
     } else {
         put_counted(out, at, OUT_OF_RANGE, 0)

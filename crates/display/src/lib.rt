@@ -2,8 +2,11 @@
 ghost use mathlib.Core.Path.{_≡_};
 ghost use Rattle.display.specs.Display.{percentOf};
 
+// An entry for each byte that a report tells.
+pub const ENTRIES: usize = 256;
+
 // Each entry is the nearest whole number to its place · 100 / 255.
-const PERCENT: [u8; 256] = [
+const PERCENT: [u8; ENTRIES] = [
     0,
     0,
     1,

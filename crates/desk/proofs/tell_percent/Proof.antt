@@ -1,5 +1,6 @@
 -- The panel is as it was, and what is written is the per cent, or that there is none.
 -- Assumes nothing.
+use native.Mathlib.Omega.{arith}
 use mathlib.Core.Path.{ap, _∙_}
 use borrow.Author.Needs.{needs}
 use borrow.Author.Tests.{le-leb, lt-leb}
@@ -16,7 +17,7 @@ returns c =
     let a = written .before .before .before .before .before .args in
     ap {B = Desk} (λ (s : Sheet). record { panel = modelOf (a .panel); page = s })
     (written .put-counted .ensures
-    ∙ rw (written .before .percent .ensures, le-leb (a .raw) 255 (written .before .before .before .if1 .taken)))
+    ∙ rw (written .before .percent .ensures, le-leb (a .raw) 255 (omega (arith, written .before .before .before .if1 .taken))))
 
 returns-2 : tie.Need-returns-2
 unfolding carriedOut percentText
