@@ -3,10 +3,8 @@
 use Prim.Native.Nat.{ℕ, _<_}
 use native.Mathlib.Omega.{arith}
 use mathlib.Core.Path.{_≡_, refl, sym, ap, _∙_, subst}
-use mathlib.Core.Bool.{true, not, _&&_}
-use lib.Dec.{ltb}
+use mathlib.Core.Bool.{true}
 use borrow.Author.Tests.{ne-eqb}
-use Rattle.laws.proofs.Choices.{cond-has}
 use Rattle.params.specs.declared.Params.{Params}
 use Rattle.heights.specs.declared.Place.{Place}
 use Rattle.heights.specs.declared.Way.{Way}
@@ -15,11 +13,10 @@ use Rattle.heights.proofs.Numbers.{target-within}
 use Rattle.heights.proofs.Ways.{Leads, way-leads}
 use Rattle.runs.specs.declared.Goal.{Goal}
 use Rattle.runs.specs.declared.Run.{Run}
-use Rattle.runs.specs.Orders.{lastOf, isLast, same}
-use Rattle.blind.specs.declared.Motion.{Motion}
+use Rattle.runs.specs.Orders.{lastOf}
 use Rattle.blind.specs.declared.Blind.{Blind}
 use Rattle.blind.specs.Fields.{withLast}
-use Rattle.blind.specs.Orders.{started, orderedOff, orderedRunning, orderedAt, ordered, motorOff, stoppedAt, stopped}
+use Rattle.blind.specs.Orders.{ordered, motorOff, stopped}
 use Rattle.blind.specs.Millisecond.{arrived}
 use Rattle.milliseconds.specs.Milliseconds.{milliseconds}
 use Rattle.milliseconds.proofs.AtOnce.{movedBy}
@@ -29,27 +26,11 @@ use Rattle.inputs.specs.Inputs.{runTo, towards, aimedBetween, aimed, followed, 
 use Rattle.duties.specs.Rulers.{dutyOf, isFree}
 use Rattle.values.specs.declared.Input.{Input}
 use Rattle.rules.specs.Rules.{commanded, heeded}
-use Rattle.conduct.specs.Ends.{Engaged, waits, runs, untilEnd, Reaches}
+use Rattle.conduct.specs.Ends.{Reaches}
+use Rattle.conduct.proofs.Ordered.{ordered-on, stopped-rests, rests-over}
 use Rattle.conduct.proofs.Kept.{Steady, ordered-steady, stopped-steady}
 use Rattle.conduct.proofs.SoundCourses.{heeded-sound}
 use Rattle.conduct.proofs.Undisturbed.{undisturbed, seen}
-
--- ---- an order's run is on
-
-pub ordered-on : (run : Run) (b : Blind) → Engaged run (ordered run b .motion)
-unfolding ordered orderedAt orderedOff orderedRunning started
-ordered-on run b = go (b .motion)
-  where
-    On : Blind → Type 0
-    On b′ = Engaged run (b′ .motion)
-
-    off-on : (rest : ℕ) → On (orderedOff rest run b)
-    off-on rest = cond-has On (ltb 0 rest && not (isLast (run .direction) (b .last))) _ _ (λ e. waits rest) (λ e. runs)
-
-    go : (motion : Motion) → On (orderedAt motion run b)
-    go (Motion.Off rest) = off-on rest
-    go (Motion.Waits rest waiting) = off-on rest
-    go (Motion.Runs old) = cond-has On (same (old .direction) (run .direction)) _ _ (λ e. runs) (λ e. waits (b .params .rpt))
 
 -- ---- where a blind comes to if nothing disturbs it
 
@@ -67,16 +48,11 @@ order-reaches run b place s goal there course alone e =
     ∙ there
 
 stop-reaches : (b : Blind) → Reaches (b .place) (stopped b)
-unfolding stopped stoppedAt motorOff milliseconds
+unfolding milliseconds
 stop-reaches b course alone e =
     ap (λ (x : Blind). x .place) (undisturbed alone)
-    ∙ ap (λ (k : ℕ). milliseconds k (stopped b) .place) (e ∙ go (b .motion) refl)
+    ∙ ap (λ (k : ℕ). milliseconds k (stopped b) .place) (e ∙ rests-over (stopped-rests b))
     ∙ stopped-steady b .place
-  where
-    go : (motion : Motion) → b .motion ≡ motion → untilEnd (stoppedAt motion b .motion) ≡ 0
-    go (Motion.Off rest) m = ap untilEnd m
-    go (Motion.Waits rest run) m = refl
-    go (Motion.Runs run) m = refl
 
 -- a way that leads to a target is a run that ends there, or none
 towards-reaches : (far : ℕ) (way : Way) (b : Blind) → Leads (b .params) far (b .place) way → Sound (towards way b)

@@ -4,7 +4,7 @@ use Prim.Native.Nat.{ℕ, _+_, _≤_, _<_, zero-le}
 use native.Mathlib.Nat.{le-antisymm}
 use native.Mathlib.Omega.{arith}
 use mathlib.Core.Path.{_≡_, refl, sym, ap, ap₂, _∙_, subst}
-use mathlib.Core.Bool.{Bool, true, false, cond, not, _&&_}
+use mathlib.Core.Bool.{Bool, true, false, cond, not, _&&_, and-false}
 use mathlib.Core.List.{List, [], _∷_, _++_}
 use lib.Dec.{eqb, ltb}
 use borrow.Author.Tests.{eq-eqb, ne-eqb, eqb-true, ltb-true, ltb-false}
@@ -13,12 +13,9 @@ use Rattle.heights.specs.declared.Direction.{Direction}
 use Rattle.heights.specs.declared.Way.{Way}
 use Rattle.heights.specs.Heights.{withPosition, target, wayTo, told}
 use Rattle.heights.proofs.Told.{target-told}
-use Rattle.runs.specs.declared.Run.{Run}
-use Rattle.blind.specs.declared.Motion.{Motion}
 use Rattle.blind.specs.declared.Blind.{Blind}
-use Rattle.blind.specs.Orders.{motorOff, stoppedAt, stopped}
 use Rattle.milliseconds.specs.Milliseconds.{milliseconds}
-use Rattle.outputs.specs.Reports.{activeAt, active, noReport, report}
+use Rattle.outputs.specs.Reports.{active, noReport, report}
 use Rattle.outputs.proofs.Reports.{report-flags}
 use Rattle.sound_blind.specs.Sound.{Sound}
 use Rattle.inputs.specs.declared.Command.{Command}
@@ -26,13 +23,14 @@ use Rattle.inputs.specs.Inputs.{runTo, towards}
 use Rattle.duties.specs.Rulers.{dutyOf, isFree}
 use Rattle.values.specs.declared.Input.{Input}
 use Rattle.rules.specs.Rules.{heeded}
-use Rattle.conduct.specs.Courses.{Event, telegram, passes, Stands, after, duration}
+use Rattle.conduct.specs.Courses.{Event, telegram, passes, Stands, duration}
 use Rattle.conduct.specs.Undisturbed.{Undisturbed, ended, told as heard, passed}
-use Rattle.conduct.specs.Ends.{Engaged, waits, runs, untilEnd, ReportsOnce}
+use Rattle.conduct.specs.Ends.{untilEnd, ReportsOnce}
 use Rattle.conduct.proofs.Kept.{heeded-rest}
 use Rattle.conduct.proofs.SoundCourses.{heeded-sound}
 use Rattle.conduct.proofs.Undisturbed.{undisturbed}
-use Rattle.conduct.proofs.Arrivals.{ordered-on, asked, run-to-ends}
+use Rattle.conduct.proofs.Ordered.{ordered-on, stopped-rests, engaged-active, rests-idle}
+use Rattle.conduct.proofs.Arrivals.{asked, run-to-ends}
 use Rattle.conduct.proofs.Phases.{stretch-reports, reaches-then}
 
 -- ---- a course, cut
@@ -59,27 +57,14 @@ reports-once b s before piece alone =
 
 -- ---- SAPBP
 
--- who has a run on runs or waits, and who is stopped does neither
-engaged-active : {run : Run} {motion : Motion} → Engaged run motion → activeAt motion ≡ true
-engaged-active (waits rest) = refl
-engaged-active runs = refl
-
-stopped-rests : (b : Blind) → active (stopped b) ≡ false
-unfolding active stopped stoppedAt motorOff
-stopped-rests b = go (b .motion) refl
-  where
-    go : (motion : Motion) → b .motion ≡ motion → activeAt (stoppedAt motion b .motion) ≡ false
-    go (Motion.Off rest) e = ap activeAt e
-    go (Motion.Waits rest run) e = refl
-    go (Motion.Runs run) e = refl
-
+-- who goes a way runs or waits, and who has met its end does neither
 go-active : (d : Direction) (n : ℕ) (b : Blind) → active (towards (Way.Go d n) b) ≡ true
 unfolding active towards
 go-active d n b = engaged-active (ordered-on (runTo d n) b)
 
 met-rests : (b : Blind) → active (towards Way.Met b) ≡ false
-unfolding towards
-met-rests b = stopped-rests b
+unfolding active towards
+met-rests b = rests-idle (stopped-rests b)
 
 -- a way is gone unless its length is 0
 way-active : (far : ℕ) (b : Blind) → active (towards (wayTo (b .params) far (b .place)) b) ≡ not (eqb (b .place .position) far)
@@ -97,11 +82,6 @@ way-active far b =
 
     P : Way → Type 0
     P way = active (towards way b) ≡ not (eqb here far)
-
--- what stands behind a test that fails is not asked
-unasked : (t : Bool) (x y : ℕ) → cond (t && false) x noReport ≡ cond (t && false) y noReport
-unasked true x y = refl
-unasked false x y = refl
 
 module _ (v : ℕ) (b : Blind) (above : 0 < v) (below : v < 255) (free : isFree (dutyOf b) ≡ true) (known : b .place .valid ≡ true) (s : Sound b) where
   stands : Stands b (heeded (Input.Command (Command.Position v)) b)
@@ -128,7 +108,7 @@ module _ (v : ℕ) (b : Blind) (above : 0 < v) (below : v < 255) (free : isFree 
       go true e =
           ap (λ (n : ℕ). cond (active b && true) n noReport)
           (ap (λ (n : ℕ). told (b .params) (withPosition n (b .place))) (eqb-true (b .place .position) (target v (b .params)) e) ∙ far-told)
-      go false e = unasked (active b) _ _
+      go false e = rw and-false
 
   -- What is told at the end of the run, which has come at once where its length is 0.
   pub end-told : told (heeded (Input.Command (Command.Position v)) b .params)

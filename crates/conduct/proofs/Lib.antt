@@ -13,3 +13,4 @@ pub mod Duties
 pub mod Obeys
 pub mod Weaker
 pub mod Finished
+pub mod Ordered

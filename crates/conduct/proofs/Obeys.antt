@@ -8,12 +8,11 @@ use Rattle.laws.proofs.Choices.{cond-has}
 use Rattle.params.specs.declared.Params.{Params}
 use Rattle.heights.specs.declared.Direction.{Direction}
 use Rattle.runs.specs.declared.Run.{Run}
-use Rattle.runs.specs.Orders.{same, mustWait}
 use Rattle.runs.specs.Millisecond.{shorter}
 use Rattle.blind.specs.declared.Motion.{Motion}
 use Rattle.blind.specs.declared.Blind.{Blind}
 use Rattle.blind.specs.Fields.{withFlags}
-use Rattle.blind.specs.Orders.{started, orderedOff, orderedRunning, orderedAt, ordered, motorOff, stoppedAt, stopped, freshOf}
+use Rattle.blind.specs.Orders.{started, motorOff, freshOf}
 use Rattle.blind.specs.Millisecond.{moved, arrived, ran, waited, millisecondAt, millisecond}
 use Rattle.milliseconds.specs.Milliseconds.{milliseconds}
 use Rattle.inputs.specs.declared.Command.{Command}
@@ -26,39 +25,17 @@ use Rattle.rules.specs.Rules.{orderOf, ruled, withFlag, flagged, commanded, hee
 use Rattle.rules.specs.Edits.{rewritten}
 use Rattle.conduct.specs.Ends.{Engaged, waits, runs}
 use Rattle.conduct.specs.Obeys.{Rests, rests, Ordered, HasOrder, Allows, ObeysAt, Obeys}
+use Rattle.conduct.proofs.Ordered.{ordered-on, stopped-rests}
 use Rattle.conduct.proofs.Idle.{dropped}
 use Rattle.conduct.proofs.Duties.{same-duty, rule-duty, acted-rule, millisecond-rule}
 
 -- ---- the order of a duty
 
-ordered-engaged : (run : Run) (b : Blind) → Engaged run (ordered run b .motion)
-unfolding ordered orderedAt orderedOff orderedRunning started
-ordered-engaged run b = go (b .motion)
-  where
-    off-engaged : (rest : ℕ) → Engaged run (orderedOff rest run b .motion)
-    off-engaged rest =
-        cond-has (λ (x : Blind). Engaged run (x .motion)) (mustWait rest (run .direction) (b .last)) _ _ (λ e. waits rest) (λ e. runs)
-
-    go : (motion : Motion) → Engaged run (orderedAt motion run b .motion)
-    go (Motion.Off rest) = off-engaged rest
-    go (Motion.Waits rest waiting) = off-engaged rest
-    go (Motion.Runs old) =
-        cond-has (λ (x : Blind). Engaged run (x .motion)) (same (old .direction) (run .direction)) _ _ (λ e. runs) (λ e. waits _)
-
-stopped-rests : (b : Blind) → Rests (stopped b .motion)
-unfolding stopped stoppedAt motorOff
-stopped-rests b = go (b .motion) refl
-  where
-    go : (motion : Motion) → b .motion ≡ motion → Rests (stoppedAt motion b .motion)
-    go (Motion.Off rest) e = subst Rests (sym e) (rests rest)
-    go (Motion.Waits rest waiting) e = rests rest
-    go (Motion.Runs run) e = rests (b .params .rpt)
-
 carried-out : (duty : Duty) (b : Blind) → Ordered duty (b .params) (acted (orderOf duty) b .motion)
 unfolding acted mud
 carried-out Duty.Free b = stopped-rests b
-carried-out Duty.Up b = ordered-engaged _ b
-carried-out Duty.Down b = ordered-engaged _ b
+carried-out Duty.Up b = ordered-on _ b
+carried-out Duty.Down b = ordered-on _ b
 carried-out Duty.Hold b = stopped-rests b
 
 acted-order : (b : Blind) → HasOrder (acted (orderOf (dutyOf b)) b)

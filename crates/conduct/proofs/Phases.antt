@@ -142,12 +142,12 @@ module _ (run : Run) (b : Blind) (s : Sound b) (on : Engaged run (b .motion)) wh
 module _ (b : Blind) (s : Sound b) where
   -- by its motion: nothing runs or waits, or a run is on
   by-motion : {P : Type 0} → ((rest : ℕ) → b .motion ≡ Motion.Off rest → P) → ((run : Run) → Engaged run (b .motion) → P) → P
-  by-motion {P} off on = go (b .motion) refl off on
+  by-motion {P} off on = go (b .motion) refl
     where
-      go : (motion : Motion) → b .motion ≡ motion → ((rest : ℕ) → b .motion ≡ Motion.Off rest → P) → ((run : Run) → Engaged run (b .motion) → P) → P
-      go (Motion.Off rest) e off on = off rest e
-      go (Motion.Waits rest run) e off on = on run (subst (Engaged run) (sym e) (waits rest))
-      go (Motion.Runs run) e off on = on run (subst (Engaged run) (sym e) runs)
+      go : (motion : Motion) → b .motion ≡ motion → P
+      go (Motion.Off rest) e = off rest e
+      go (Motion.Waits rest run) e = on run (subst (Engaged run) (sym e) (waits rest))
+      go (Motion.Runs run) e = on run (subst (Engaged run) (sym e) runs)
 
   still : (rest k : ℕ) → b .motion ≡ Motion.Off rest → milliseconds k b ≡ withMotion (Motion.Off (rest - k)) b
   still rest k e = ap (λ (motion : Motion). milliseconds k (withMotion motion b)) e ∙ resting k rest b

@@ -24,8 +24,9 @@ use Rattle.duties.specs.Rulers.{dutyOf, isFree}
 use Rattle.values.specs.declared.Input.{Input}
 use Rattle.values.specs.Telegrams.{commandOf, inputOf}
 use Rattle.rules.specs.Rules.{heeded}
-use Rattle.conduct.specs.Ends.{Engaged, waits, runs, untilEnd, Reaches}
-use Rattle.conduct.proofs.Phases.{engaged-in, full-place, rests-then, active-until, reaches-then}
+use Rattle.conduct.specs.Ends.{Engaged, untilEnd, Reaches}
+use Rattle.conduct.proofs.Phases.{engaged-in, full-place, rests-then, active-until, active-is, reaches-then}
+use Rattle.conduct.proofs.Ordered.{engaged-active}
 use Rattle.conduct.proofs.Arrivals as ofOne
 use Rattle.link.specs.declared.Link.{Link}
 use Rattle.link.specs.Link.{nothing}
@@ -46,14 +47,6 @@ use Rattle.demands.proofs.Tells.{run-tells}
 
 -- ---- the end of a run
 
--- a run that is on takes its time
-takes-time : (b : Blind) (order : ofRuns.Run) → ofBlind.Sound b → Engaged order (b .motion) → 0 < untilEnd (b .motion)
-takes-time b order s on = go (b .motion) on (s .motion)
-  where
-    go : (motion : Motion) → Engaged order motion → ofBlind.SoundMotion (b .params) (b .last) motion → 0 < untilEnd motion
-    go motion (waits rest) h = let some : 1 ≤ order .length = h .length .least in omega arith
-    go motion runs h = h .length .least
-
 module _ (tag : ℕ) (run : Run) (b : Blind) (m : Model) (fine : Fine m) (here : blindAt tag m ≡ some b) (order : ofRuns.Run)
     (on : Engaged order (b .motion)) (calm : Each (Calm tag) run m) where
   s : ofBlind.Sound b
@@ -73,7 +66,7 @@ module _ (tag : ℕ) (run : Run) (b : Blind) (m : Model) (fine : Fine m) (here :
 
   -- Any run that is on, of any goal: it ends where its milliseconds lead, after exactly its time.
   pub run-ends : EndsAt (milliseconds (untilEnd (b .motion)) b .place) tag b run m
-  unfolding active
+  unfolding active milliseconds
   run-ends =
       record {
         on-before = λ h.
@@ -90,7 +83,7 @@ module _ (tag : ℕ) (run : Run) (b : Blind) (m : Model) (fine : Fine m) (here :
             ∙ ap (λ (x : Motion). some x) (pauses-then tag run b m fine here order on calm (duration run m) h);
         told-once = λ h l.
             tells-now l
-            ∙ rw (le-leb (untilEnd (b .motion)) (duration run m) h, lt-ltb 0 (untilEnd (b .motion)) (takes-time b order s on));
+            ∙ rw (le-leb (untilEnd (b .motion)) (duration run m) h, sym (active-is b s 0) ∙ engaged-active on);
       }
     where
       split : untilEnd (b .motion) ≤ duration run m → duration run m ≡ untilEnd (b .motion) + (duration run m - untilEnd (b .motion))

@@ -3,13 +3,13 @@
 use Prim.Native.Nat.{ℕ, _+_, _<_}
 use native.Mathlib.Omega.{arith}
 use mathlib.Core.Path.{_≡_, refl, sym, ap, ap₂, _∙_, subst}
-use mathlib.Core.Bool.{Bool, true, false, cond, not, _&&_}
+use mathlib.Core.Bool.{Bool, true, false, cond, not, _&&_, and-true, and-false}
 use mathlib.Core.List.{List, [], _∷_, _++_}
 use mathlib.Core.Option.{some, Option·some-injective}
 use lib.ListN.{length, getD}
 use lib.Dec.{eqb, ltb, leb}
 use borrow.Author.Tests.{eq-eqb, ne-eqb, lt-ltb, le-leb, lt-leb}
-use Rattle.laws.proofs.Choices.{never-both}
+use Rattle.laws.proofs.Choices.{is-false, never-both}
 use Rattle.kinds.specs.Kinds.{sapbp}
 use Rattle.heights.specs.Heights.{target}
 use Rattle.blind.specs.declared.Blind.{Blind}
@@ -74,28 +74,20 @@ module _ (tag address v : ℕ) (b : Blind) (m : Model) (cells : Cells) (fine : F
 
   -- the telegram's own cell: nothing where a run is to be made,
   own-silent : there ≡ false → said (reportOf tag (does (telegram address v) m cells) ∷ []) ≡ []
-  own-silent away = own-said ∙ ap (λ (t : Bool). cond (active b && t) ((v + 256) ∷ []) []) away ∙ go (active b)
-    where
-      go : (on : Bool) → cond (on && false) ((v + 256) ∷ []) [] ≡ []
-      go true = refl
-      go false = refl
+  own-silent away = own-said ∙ ap (λ (t : Bool). cond (active b && t) ((v + 256) ∷ []) []) away ∙ rw and-false
 
   -- and v where there is none, if the blind ran or waited
   own-told : there ≡ true → said (reportOf tag (does (telegram address v) m cells) ∷ []) ≡ cond (active b) ((v + 256) ∷ []) []
-  own-told met = own-said ∙ ap (λ (t : Bool). cond (active b && t) ((v + 256) ∷ []) []) met ∙ go (active b)
-    where
-      go : (on : Bool) → cond (on && true) ((v + 256) ∷ []) [] ≡ cond on ((v + 256) ∷ []) []
-      go true = refl
-      go false = refl
+  own-told met = own-said ∙ ap (λ (t : Bool). cond (active b && t) ((v + 256) ∷ []) []) met ∙ rw and-true
 
   -- it runs or waits unless it is there already
   lasts : ltb 0 (untilEnd (c .motion)) ≡ not there
   unfolding milliseconds
   lasts = sym (active-is c c-sound 0) ∙ ofOne.on-unless-there v b above below free known s
 
-  away-while : (there′ : Bool) → there ≡ there′ → 0 < untilEnd (c .motion) → there ≡ false
-  away-while false e h = e
-  away-while true e h = never-both (ltb 0 (untilEnd (c .motion))) (lt-ltb 0 (untilEnd (c .motion)) h) (lasts ∙ ap not e)
+  away-while : 0 < untilEnd (c .motion) → there ≡ false
+  away-while h =
+      is-false there (λ e. never-both (ltb 0 (untilEnd (c .motion))) (lt-ltb 0 (untilEnd (c .motion)) h) (lasts ∙ ap not e))
 
   module _ (run : Run) (calm : Each (Calm tag) run then) where
     -- while the run lasts no edit is accepted that would change the blind
@@ -125,7 +117,7 @@ module _ (tag address v : ℕ) (b : Blind) (m : Model) (cells : Cells) (fine : F
     reported =
         record {
           silent-before = λ h.
-              let away = away-while there refl (omega arith) in
+              let away = away-while (omega arith) in
               heard-after away (later away (lt-leb (untilEnd (c .motion)) (duration run then) h) (meanwhile h));
           told-once = λ other over unedited.
               let away = ne-eqb (b .place .position) (target v (b .params)) other in

@@ -5,7 +5,7 @@ use native.Mathlib.Nat.{add-zero, zero-add}
 use native.Mathlib.Omega.{arith}
 use mathlib.Core.Path.{_≡_, refl, sym, ap, ap₂, _∙_}
 use mathlib.Core.Bool.{Bool, true, false, cond, not, _&&_}
-use mathlib.Core.List.{List, [], _∷_, _++_}
+use mathlib.Core.List.{List, [], _∷_, _++_, append-nil}
 use mathlib.Core.Option.{some}
 use lib.Dec.{eqb, ltb, leb}
 use borrow.Author.Tests.{ne-eqb, lt-ltb, le-ltb}
@@ -137,16 +137,12 @@ module _ (tag : ℕ) (b : Blind) (s : ofBlind.Sound b) where
       let then-off : active (milliseconds u b) ≡ false = active-is b s u ∙ le-ltb u (untilEnd (b .motion)) high in
       let last-off : active (milliseconds v b) ≡ false = active-is b s v ∙ le-ltb v (untilEnd (b .motion)) (omega arith) in
       ap (λ (xs : List ℕ). said (report (milliseconds t b) (milliseconds u b) ∷ []) ++ xs) (said-none _ (rw then-off))
-      ∙ nothing-more (said (report (milliseconds t b) (milliseconds u b) ∷ []))
+      ∙ append-nil (said (report (milliseconds t b) (milliseconds u b) ∷ []))
       ∙ ap₂ (λ (x : Bool) (n : ℕ). said (cond (active (milliseconds t b) && not x) n noReport ∷ []))
       (then-off ∙ sym last-off) (tells-same b s u high ∙ sym (tells-same b s v (omega arith))))
     where
       last : Blind
       last = milliseconds v b
-
-      nothing-more : (xs : List ℕ) → xs ++ [] ≡ xs
-      nothing-more [] = refl
-      nothing-more (x ∷ xs) = ap (λ (l : List ℕ). x ∷ l) (nothing-more xs)
 
   -- what a calm run tells is what its milliseconds at once would tell
   tells-from : (run : Run) (t : ℕ) (m : Model) → Apart tag (milliseconds t b) m → Each (Calm tag) run m → Each (Unedited tag) run m

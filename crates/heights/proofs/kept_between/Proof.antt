@@ -1,4 +1,5 @@
--- `kept_between`: the tests say on which side of 1 and of 254 the number is.
+-- `kept_between`: the tests say on which side of 1 and of 254 the number is. It would be proved without this file; with it the refusal of
+-- a wrong program names the fact.
 -- Assumes nothing.
 use native.Mathlib.Omega.{arith}
 use Rattle.heights.proofs.kept_between.Statement.{statement}
