@@ -1,7 +1,8 @@
 /* The numbered cases of document 01 by the peer's calls, W3 as K2 has it and
-   W9 as K5 has it: one line for each, name, tab, `same` or `differs`. */
+   W9 as K5 has it: one line for each, name, tab, `same` or `differs`. K1 is
+   asked in R3. */
 
-#include "panel.h"
+#include "why.h"
 
 #include <stdio.h>
 
@@ -326,19 +327,82 @@ static void r2(void)
     expect(time_step(&panel, 60001, reports, TAGS).number == OUTSIDE_ITS_RANGE);
 }
 
-/* "MUD and STOP on one address, blind not busy: no report, rest time
-   RPT." */
+static void expect_why(uint64_t address, uint64_t value, enum reason reason,
+                       uint64_t left)
+{
+    struct explanation answer = why(&panel, 5, address, value);
+    expect(answer.number == DONE && answer.reason == reason && answer.left == left);
+}
+
+/* K1: "dropped under wind, rain, frost or forced (the one that rules)", each
+   on top of the one before. The flags themselves are never under anything. */
+static void expect_rulers(void)
+{
+    send(FO, 2);
+    expect_why(address_of(MUD), 1, UNDER_FORCED, 0);
+    expect_why(address_of(FO), 2, ALREADY_SO, 0);
+    send(FA, 1);
+    expect_why(address_of(MUD), 1, UNDER_FROST, 0);
+    expect_why(address_of(FO), 3, ACTS, 0);
+    send(RA, 1);
+    expect_why(address_of(STOP), 1, UNDER_RAIN, 0);
+    send(WA, 1);
+    expect_why(address_of(SSUD), 1, UNDER_WIND, 0);
+    expect_why(address_of(SAPBP), 100, UNDER_WIND, 0);
+    expect_why(address_of(MUD), 2, WRONG_CLASS, 0);
+    expect_why(address_of(WA), 1, ALREADY_SO, 0);
+    expect_why(address_of(WA), 0, ACTS, 0);
+    send(RA, 0);
+    expect_why(address_of(WA), 0, ACTS, 0);
+    send(WA, 0);
+    send(FA, 0);
+    send(FO, 0);
+}
+
+/* K1 from where R3 ends: last direction up, rest time RPT, not valid. */
+static void expect_reasons(void)
+{
+    expect_why(999, 0, NOT_LINKED, 0);
+    expect_why(999, 255, NOT_LINKED, 0);
+    expect_why(address_of(MUD), 2, WRONG_CLASS, 0);
+    expect_why(address_of(FO), 4, WRONG_CLASS, 0);
+    expect_why(address_of(SAPBP), 100, NO_POSITION, 0);
+    expect_why(address_of(SAPBP), 0, ACTS, 0);
+    expect_why(address_of(SAPBP), 255, WAITS_FOR_THE_PAUSE, 500);
+    expect_why(address_of(STOP), 0, ALREADY_SO, 0);
+    send(MUD, 1);
+    pass(1);
+    expect_why(address_of(MUD), 1, WAITS_FOR_THE_PAUSE, 499);
+    expect_why(address_of(MUD), 0, ACTS, 0);
+    pass(499);
+    expect_why(address_of(MUD), 1, ALREADY_SO, 0);
+    expect_why(address_of(MUD), 0, WAITS_FOR_THE_PAUSE, 500);
+    pass(1);
+    expect_why(address_of(MUD), 1, ACTS, 0);
+    send(STOP, 0);
+    pass(500);
+    expect_rulers();
+    expect(add_link(&panel, address_of(WA), 5, MUD).number == DONE);
+    expect_why(address_of(WA), 1, UNDER_WIND, 0);
+    expect_why(address_of(WA), 0, ACTS, 0);
+}
+
+/* "MUD and STOP on one address, blind not busy: no report, rest time RPT." K1:
+   "With several links on the address it speaks of the last in table order,
+   judged after the earlier ones are delivered." */
 static void r3(void)
 {
     begin();
     expect(add_link(&panel, 7, 5, MUD).number == DONE);
     expect(add_link(&panel, 7, 5, STOP).number == DONE);
     pass(500);
+    expect_why(7, 0, ACTS, 0);
     struct answer answer = telegram(&panel, 7, 0, reports, TAGS);
     expect(answer.number == DONE && answer.count == 2);
     expect_report(512);
     expect_at_rest();
     expect(blind()->rest == 500);
+    expect_reasons();
 }
 
 int main(void)

@@ -1,6 +1,7 @@
 /* The command language of docs/COMMANDS.md. */
 
 #include "commands.h"
+#include "why.h"
 
 #include <string.h>
 
@@ -128,6 +129,24 @@ static void put_inventory(struct text *text, struct inventory answer)
     put_number(text, answer.number);
     put_after_blank(text, answer.blinds);
     put_after_blank(text, answer.lowest_free_tag);
+}
+
+/* The number, and for an answered question the reason. */
+static void put_explanation(struct text *text, struct explanation answer)
+{
+    static const char *const reasons[] = {
+        [NOT_LINKED] = " not-linked", [WRONG_CLASS] = " wrong-class",
+        [UNDER_WIND] = " under-wind", [UNDER_RAIN] = " under-rain",
+        [UNDER_FROST] = " under-frost", [UNDER_FORCED] = " under-forced",
+        [NO_POSITION] = " no-position", [WAITS_FOR_THE_PAUSE] = " waiting",
+        [ACTS] = " acts", [ALREADY_SO] = " already-so"
+    };
+    put_number(text, answer.number);
+    if (answer.number != DONE)
+        return;
+    put(text, reasons[answer.reason]);
+    if (answer.reason == WAITS_FOR_THE_PAUSE)
+        put_after_blank(text, answer.left);
 }
 
 /* ---- Show ------------------------------------------------------------ */
@@ -319,6 +338,13 @@ static void do_percent(struct panel *panel, const uint64_t *a, size_t count,
     put_answer(text, percent(a[0]));
 }
 
+static void do_why(struct panel *panel, const uint64_t *a, size_t count,
+                   struct text *text)
+{
+    (void)count;
+    put_explanation(text, why(panel, a[0], a[1], a[2]));
+}
+
 static void do_show(struct panel *panel, const uint64_t *a, size_t count,
                     struct text *text)
 {
@@ -354,6 +380,7 @@ static const struct {
     { "strip", 0, 0, do_strip },
     { "inv", 0, 0, do_inv },
     { "percent", 1, 1, do_percent },
+    { "why", 3, 3, do_why },
     { "show", 0, 0, do_show },
     { "new", 0, 0, do_new },
 };

@@ -1,10 +1,10 @@
 /* What a script cannot show: answer 11 for each wrong number of lent cells,
    and answer 12 for each clause of the paragraph "Sound" and for anything in
    an unused link place, by every call that takes a panel, in the order 11,
-   12, 1, with panel and cells untouched. Also: a removal leaves 0 in the
-   places that it frees. */
+   12, 1, with panel and cells untouched; the same of `why`, in the order 12,
+   1, 2. Also: a removal leaves 0 in the places that it frees. */
 
-#include "panel.h"
+#include "why.h"
 
 #include <stdio.h>
 #include <string.h>
@@ -55,6 +55,27 @@ static struct panel sound_panel(void)
 /* ---- Every call that takes a panel ----------------------------------- */
 
 static const uint64_t huge = UINT64_MAX;
+
+static int refuses(struct explanation answer, uint64_t number)
+{
+    return answer.number == number && answer.reason == NO_REASON && answer.left == 0;
+}
+
+/* K1: "A bad panel, a bad argument and an absent blind are answered 12, 1 and
+   2, in that order." */
+static void expect_12_of_why(const struct panel *damaged, const char *what)
+{
+    static struct panel panel;
+    memcpy(&panel, damaged, sizeof panel);
+    for (uint64_t tag = 0; tag < TAGS; tag++)
+        expect(refuses(why(&panel, tag, 100, 0), NOT_A_SOUND_PANEL), what);
+    expect(refuses(why(&panel, 1, 9999, 0), NOT_A_SOUND_PANEL), what);
+    expect(refuses(why(&panel, TAGS, 100, 0), NOT_A_SOUND_PANEL), what);
+    expect(refuses(why(&panel, 1, 0, 0), NOT_A_SOUND_PANEL), what);
+    expect(refuses(why(&panel, 1, 100, 256), NOT_A_SOUND_PANEL), what);
+    expect(refuses(why(&panel, huge, huge, huge), NOT_A_SOUND_PANEL), what);
+    expect(memcmp(&panel, damaged, sizeof panel) == 0, what);
+}
 
 /* Whether every call answers 12, counts 0, also with arguments that would
    be answered 1, and leaves the panel as it is. */
@@ -107,6 +128,7 @@ static void expect_12_everywhere(const struct panel *damaged, const char *what)
         what;                                                               \
         expect(!is_sound(&p), #what);                                       \
         expect_12_everywhere(&p, #what);                                    \
+        expect_12_of_why(&p, #what);                                        \
     } while (0)
 
 /* A sound panel with one thing changed is still sound. */
@@ -304,6 +326,46 @@ static void cells_lent(void)
     expect(memcmp(&panel, &before, sizeof panel) == 0, "panel after refusals");
 }
 
+/* ---- Why ------------------------------------------------------------- */
+
+/* 1 before 2, and both before any reason. Tags 1 to 7 have blinds, and the
+   address 100 has links. */
+static void why_refused(void)
+{
+    static const uint64_t tags[] = { 1, 8, 63, 64, 257, 1ull << 32, UINT64_MAX };
+    static const uint64_t addresses[] = { 100, 9999, 65535, 0, 65536, 65636, UINT64_MAX };
+    static const uint64_t values[] = { 0, 2, 255, 256, 257, UINT64_MAX };
+    static struct panel panel, before;
+    panel = before = sound_panel();
+    for (size_t t = 0; t < sizeof tags / sizeof tags[0]; t++)
+        for (size_t a = 0; a < sizeof addresses / sizeof addresses[0]; a++)
+            for (size_t v = 0; v < sizeof values / sizeof values[0]; v++) {
+                struct explanation answer = why(&panel, tags[t], addresses[a], values[v]);
+                if (t >= 3 || a >= 3 || v >= 3)
+                    expect(refuses(answer, OUTSIDE_ITS_RANGE), "why 1");
+                else if (t >= 1)
+                    expect(refuses(answer, NO_BLIND_WITH_THIS_TAG), "why 2");
+                else
+                    expect(answer.number == DONE && answer.reason != NO_REASON, "why");
+            }
+    expect(memcmp(&panel, &before, sizeof panel) == 0, "panel after why");
+}
+
+/* At rest direction, sort and length carry nothing: a stop that sets them back
+   changes no field. */
+static void why_at_rest(void)
+{
+    static struct panel panel;
+    panel = sound_panel();
+    add_link(&panel, 501, 1, STOP);
+    expect(why(&panel, 1, 501, 0).reason == ALREADY_SO, "stop at rest");
+    panel.blinds[1].direction = DOWN;
+    panel.blinds[1].sort = STEP;
+    panel.blinds[1].length = 7;
+    expect(is_sound(&panel), "leftovers at rest");
+    expect(why(&panel, 1, 501, 0).reason == ALREADY_SO, "leftovers at rest");
+}
+
 int main(void)
 {
     struct panel panel = sound_panel();
@@ -318,6 +380,8 @@ int main(void)
     terminals_and_parameters();
     runs_and_waits();
     cells_lent();
+    why_refused();
+    why_at_rest();
     printf("%d checks, %d wrong\n", checks, wrong);
     return wrong != 0;
 }

@@ -457,29 +457,126 @@ static uint64_t a_value_for(uint64_t address)
     return chance(600) ? ONE_OF(heights) : below(256);
 }
 
-static void add_telegram(void)
+/* The telegram at hand: the last one, or one that is about to follow. */
+static struct {
+    uint64_t address, value;
+    int follows; /* a `why` asked for it already */
+} aim;
+
+static void take_aim(void)
 {
-    static uint64_t address, value;
     const struct link *byte = some_link_of_kind(SAPBP);
     const struct link *step = some_link_of_kind(SSUD);
     if (byte && stands_at_target(&picture.blinds[byte->tag]) && chance(400)) {
-        address = byte->address;
-        value = height_of(&picture.blinds[byte->tag]);
+        aim.address = byte->address;
+        aim.value = height_of(&picture.blinds[byte->tag]);
     } else if (step && steps_to_a_half(&picture.blinds[step->tag]) && chance(200)) {
-        address = step->address;
-        value = 1;
+        aim.address = step->address;
+        aim.value = 1;
     } else if (!chance(60)) { /* else the same once more */
         static const unsigned kinds[] = { 12, 8, 8, 12, 18, 8, 16, 22 };
         const struct link *link = some_link_of_kind(by_weight(kinds, 8));
         if (!link)
             link = some_link();
-        address = link && chance(950) ? link->address
-                                      : mood.addresses[below(mood.address_count)];
-        value = a_value_for(address);
+        aim.address = link && chance(950) ? link->address
+                                          : mood.addresses[below(mood.address_count)];
+        aim.value = a_value_for(aim.address);
     }
+}
+
+static void add_telegram(void)
+{
+    if (!aim.follows)
+        take_aim();
+    aim.follows = 0;
     add("tel");
-    add_number(or_odd(address));
-    add_number(or_odd(value));
+    add_number(or_odd(aim.address));
+    add_number(or_odd(aim.value));
+}
+
+/* ---- Why ------------------------------------------------------------- */
+
+/* A link whose MUD would change the sort of a run and nothing else: the blind
+   has just begun a step that is as long as a full run. */
+static const struct link *link_to_a_long_step(void)
+{
+    for (uint64_t i = 0; i < picture.link_count; i++) {
+        const struct blind *b = &picture.blinds[picture.links[i].tag];
+        if (picture.links[i].kind == MUD && b->motion == RUNNING && b->sort == STEP
+            && b->length == b->parameters.mudt)
+            return &picture.links[i];
+    }
+    return NULL;
+}
+
+/* As for any telegram, but more often one that changes only a sort, or a run
+   to a position where it is not valid. */
+static void take_aim_to_ask(void)
+{
+    const struct link *step = link_to_a_long_step();
+    const struct link *byte = some_link_of_kind(SAPBP);
+    take_aim();
+    if (step && chance(800)) {
+        aim.address = step->address;
+        aim.value = picture.blinds[step->tag].direction == DOWN;
+    } else if (byte && !picture.blinds[byte->tag].valid && chance(350)) {
+        aim.address = byte->address;
+        aim.value = a_value_for(aim.address);
+    }
+}
+
+static int is_linked(uint64_t address, uint64_t tag)
+{
+    for (uint64_t i = 0; i < picture.link_count; i++)
+        if (picture.links[i].address == address && picture.links[i].tag == tag)
+            return 1;
+    return 0;
+}
+
+/* Mostly a tag with a link on the address, one with several of them more
+   often; else one that is linked elsewhere, or any tag. */
+static uint64_t a_tag_to_ask(uint64_t address)
+{
+    uint64_t tag = a_tag(), seen = 0;
+    if (chance(80))
+        return below(TAGS);
+    if (chance(120))
+        return tag;
+    for (uint64_t i = 0; i < picture.link_count; i++)
+        if (picture.links[i].address == address && below(++seen) == 0)
+            tag = picture.links[i].tag;
+    return tag;
+}
+
+/* The value of the telegram, or another one, also of another class: that more
+   often where it goes to other blinds only. */
+static uint64_t a_value_to_ask(uint64_t tag)
+{
+    static const uint64_t others[] = { 2, 3, 4, 127, 128, 254, 255 };
+    if (chance(is_linked(aim.address, tag) ? 80 : 400))
+        return ONE_OF(others);
+    return chance(850) ? aim.value : a_value_for(aim.address);
+}
+
+/* Before a telegram, which then follows, or after one. An absent tag comes more
+   often with an argument outside its range: there it shows which of the two is
+   noticed first. */
+static void add_why(void)
+{
+    static const uint64_t outside[3][2] = { { 64, 255 }, { 0, 65536 }, { 256, 257 } };
+    if (chance(600)) {
+        take_aim_to_ask();
+        aim.follows = 1;
+    }
+    uint64_t tag = a_tag_to_ask(aim.address);
+    uint64_t numbers[3] = { tag, aim.address, a_value_to_ask(tag) };
+    if (chance(picture.blinds[tag].present ? 50 : 300)) {
+        uint64_t which = below(3);
+        numbers[which] = chance(300) ? ONE_OF(outside[which]) : odd_number(numbers[which]);
+    }
+    add("why");
+    for (size_t i = 0; i < 3; i++)
+        add_number(numbers[i]);
 }
 
 /* ---- Time ------------------------------------------------------------ */
@@ -584,25 +681,29 @@ static void add_splice_out(void)
 
 enum command {
     INSTALL, REMOVE, PARAMS, LINK, UNLINK, IN, OUT, TEL, TIME, STRIP, INV, PERCENT,
-    SHOW, NEW, COMMANDS
+    WHY, SHOW, NEW, COMMANDS
 };
 
 /* How often each command comes, in the order of the list above. */
 static const unsigned normally[COMMANDS] =
-    { 20, 8, 14, 60, 25, 16, 14, 400, 260, 50, 12, 12, 90, 1 };
+    { 20, 8, 14, 60, 25, 16, 14, 350, 260, 50, 12, 12, 95, 90, 1 };
 static const unsigned in_a_burst[COMMANDS] =
-    { 40, 40, 120, 60, 30, 240, 200, 70, 20, 10, 10, 5, 140, 0 };
+    { 40, 40, 120, 60, 30, 240, 200, 60, 20, 10, 10, 5, 20, 140, 0 };
 static const unsigned in_a_crowd[COMMANDS] =
-    { 40, 8, 10, 300, 100, 20, 20, 250, 50, 25, 40, 10, 12, 0 };
+    { 40, 8, 10, 300, 100, 20, 20, 220, 50, 25, 40, 10, 60, 12, 0 };
 static const unsigned to_install[COMMANDS] =
-    { 900, 5, 5, 30, 5, 5, 5, 10, 10, 5, 10, 5, 10, 0 };
+    { 900, 5, 5, 30, 5, 5, 5, 10, 10, 5, 10, 5, 10, 10, 0 };
 static const unsigned to_link[COMMANDS] =
-    { 20, 1, 5, 900, 10, 3, 3, 60, 20, 5, 10, 5, 10, 0 };
+    { 20, 1, 5, 900, 10, 3, 3, 60, 20, 5, 10, 5, 20, 10, 0 };
 
 static enum command a_command(void)
 {
     uint64_t blinds = blinds_present(), links = picture.link_count;
     const unsigned *weights = normally;
+    if (aim.follows)
+        return TEL;
+    if (link_to_a_long_step() && chance(500))
+        return WHY;
     if (blinds == TAGS && chance(20))
         return INV;
     if (mood.crowded)
@@ -661,6 +762,7 @@ static void add_command(enum command command)
     case STRIP: add("strip"); break;
     case INV: add("inv"); break;
     case PERCENT: add_percent(); break;
+    case WHY: add_why(); break;
     case SHOW: add("show"); break;
     default: add("new"); break;
     }
@@ -672,9 +774,9 @@ static void damage_command(void)
 {
     static const char *const names[] = {
         "Install", "NEW", "instal", "installs", "tell", "te", "tel1", "times",
-        "i", "in.", "outt", "stripe", "invent", "percen", "percents", "%", "sho",
-        "shows", "news", "0", "error:", "quit", "help", "-", "new#", "parameters",
-        "links", "\"inv\""
+        "i", "in.", "outt", "stripe", "invent", "percen", "percents", "%", "wh",
+        "whys", "why?", "Why", "sho", "shows", "news", "0", "error:", "quit", "help",
+        "-", "new#", "parameters", "links", "\"inv\""
     };
     const char *name = ONE_OF(names);
     words[0].length = strlen(name);

@@ -2,10 +2,10 @@
 -- exactly as the first case that holds. Assumes nothing.
 use Prim.Native.Nat.{ℕ}
 use mathlib.Core.Path.{_≡_, refl, sym, subst}
-use mathlib.Core.Bool.{Bool, true, false, cond}
+use mathlib.Core.Bool.{Bool, true, false, cond, _&&_}
 use mathlib.Core.List.{List, [], _∷_}
 use Rattle.laws.specs.Decides.{Decides}
-use Rattle.laws.proofs.Choices.{never-both}
+use Rattle.laws.proofs.Choices.{both-left, both-right, never-both}
 use Rattle.answers.specs.Answers.{first}
 use Rattle.answers.specs.Rules.{Rule, carried}
 use Rattle.answers.specs.Cases.{Case, First, none, here, later, Exactly}
@@ -44,6 +44,17 @@ module _ {A : Type 0} (otherwise : A) where
 
   pub exactly : {tests : List (Bool × A)} {cases : List (Case A)} → Told tests cases → Exactly otherwise cases (first otherwise tests)
   exactly {cases = cases} t = record { in-its-case = λ a e. subst (First otherwise cases) e (given t); only-there = λ a f. only (given t) f }
+
+-- what the answer of every case has, and the one where none holds, the answer that is given has
+abbrev pub allHave : {A : Type 0} → (A → Bool) → List (Case A) → Bool
+allHave p [] = true
+allHave p (c ∷ rest) = p (c .answer) && allHave p rest
+
+pub given-has : {A : Type 0} (p : A → Bool) {otherwise a : A} (cases : List (Case A)) → p otherwise ≡ true → allHave p cases ≡ true
+    → First otherwise cases a → p a ≡ true
+given-has p [] o all none = o
+given-has p (c ∷ rest) o all (here h) = both-left (p (c .answer)) (allHave p rest) all
+given-has p (c ∷ rest) o all (later h f) = given-has p rest o (both-right (p (c .answer)) (allHave p rest) all) f
 
 -- a call answers each number exactly in its case
 pub exactly-rule : {M C : Type 0} (rule : Rule M C) (m : M) (cells : C) {cases : List (Case ℕ)} → Told (rule .checks m cells) cases

@@ -9,15 +9,23 @@ use Rattle.laws.specs.Every.{every}
 use Rattle.laws.proofs.Choices.{both-left, both-right}
 use Rattle.answers.specs.Answers.{Check, first, refusal}
 
+-- of a list of tests: one that is passed gives its answer, and one that is not is left out
+module _ {A : Type 0} (otherwise : A) (t : Bool) (a : A) (rest : List (Bool × A)) where
+  pub first-is : t ≡ true → first otherwise ((t, a) ∷ rest) ≡ a
+  unfolding first
+  first-is e = ap (λ (b : Bool). cond b a (first otherwise rest)) e
+
+  pub first-not : t ≡ false → first otherwise ((t, a) ∷ rest) ≡ first otherwise rest
+  unfolding first
+  first-not e = ap (λ (b : Bool). cond b a (first otherwise rest)) e
+
 -- a check whose case is there gives its number
 pub refused-by : (t : Bool) (n : ℕ) (rest : List Check) → t ≡ true → refusal ((t, n) ∷ rest) ≡ n
-unfolding first
-refused-by t n rest e = ap (λ (b : Bool). cond b n (refusal rest)) e
+refused-by = first-is 0
 
 -- a check whose case is not there is passed over
 pub passed-by : (t : Bool) (n : ℕ) (rest : List Check) → t ≡ false → refusal ((t, n) ∷ rest) ≡ refusal rest
-unfolding first
-passed-by t n rest e = ap (λ (b : Bool). cond b n (refusal rest)) e
+passed-by = first-not 0
 
 -- where the answer is done, the case of no check is there
 pub all-passed : (t : Bool) (n : ℕ) (rest : List Check) → refusal ((t, suc n) ∷ rest) ≡ 0 → (t ≡ false) × (refusal rest ≡ 0)

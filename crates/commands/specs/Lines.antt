@@ -56,6 +56,7 @@ called Name.Out count value = Command.Edit (Edit.Out (value 0) (value 1))
 called Name.Tel count value = Command.Tel (value 0) (value 1)
 called Name.Time count value = Command.Time (value 0)
 called Name.Percent count value = Command.Percent (value 0)
+called Name.Why count value = Command.Why (value 0) (value 1) (value 2)
 
 -- The mistakes in their order: an unknown command, a wrong number of arguments, an argument that is no number.
 unfoldable pub judged : Entry → ℕ → Bool → (ℕ → ℕ) → Meaning

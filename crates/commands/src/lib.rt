@@ -25,6 +25,7 @@ pub enum Command {
     Tel(u64, u64),
     Time(u64),
     Percent(u64),
+    Why(u64, u64, u64),
 }
 
 // What can be wrong with a line.

@@ -105,6 +105,7 @@ fn call(name: Name, given: Arguments) -> Command
         Name::Tel => Command::Tel(a, b),
         Name::Time => Command::Time(a),
         Name::Percent => Command::Percent(a),
+        Name::Why => Command::Why(a, b, c),
     }
 }
 

@@ -1,11 +1,12 @@
 -- When two duties are the same, and what a duty hangs on: the parameters and the flags, which no order, stop or millisecond touches.
 -- Assumes nothing.
 use Prim.Native.Nat.{ℕ, zero, suc}
-use mathlib.Core.Path.{_≡_, refl, sym, ap, ap₂, _∙_, subst}
+use mathlib.Core.Path.{_≡_, refl, ap, ap₂, _∙_}
 use mathlib.Core.Bool.{Bool, true, false, cond}
 use lib.Dec.{eqb}
-use borrow.Author.Tests.{eqb-true}
+use Rattle.laws.specs.Decides.{Decides}
 use Rattle.laws.proofs.Choices.{cond-has, never-both}
+use Rattle.laws.proofs.Deciding.{same-case}
 use Rattle.params.specs.declared.Params.{Params}
 use Rattle.runs.specs.Millisecond.{shorter}
 use Rattle.blind.specs.declared.Flags.{Flags}
@@ -34,18 +35,14 @@ by-number Duty.Up = refl
 by-number Duty.Down = refl
 by-number Duty.Hold = refl
 
+duty-told : (one other : Duty) → Decides (sameDuty one other) (one ≡ other)
+duty-told = same-case dutyNumber numbered by-number
+
 pub same-duty : (one other : Duty) → sameDuty one other ≡ true → one ≡ other
-same-duty one other e =
-    sym (by-number one) ∙ ap numbered (eqb-true (dutyNumber one) (dutyNumber other) e) ∙ by-number other
+same-duty one other e = duty-told one other .holds e
 
 pub equal-duties : (one other : Duty) → one ≡ other → sameDuty one other ≡ true
-equal-duties one other same = subst (λ (d : Duty). sameDuty one d ≡ true) same (itself one)
-  where
-    itself : (duty : Duty) → sameDuty duty duty ≡ true
-    itself Duty.Free = refl
-    itself Duty.Up = refl
-    itself Duty.Down = refl
-    itself Duty.Hold = refl
+equal-duties one other same = duty-told one other .tested same
 
 pub duty-decides : (one other : Duty) → Dec (one ≡ other)
 duty-decides one other = go (sameDuty one other) refl

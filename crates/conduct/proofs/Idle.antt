@@ -1,9 +1,12 @@
 -- Telegrams that do not disturb: a command that is dropped or asks for nothing leaves the blind as it was, and a flag that changes no
 -- duty leaves every other field.
 -- Assumes nothing.
+use Prim.Native.Nat.{ℕ, _≤_}
+use native.Mathlib.Omega.{arith}
 use mathlib.Core.Path.{_≡_, refl, sym, ap, _∙_}
 use mathlib.Core.Bool.{Bool, true, false, cond}
 use mathlib.Core.Logic.{inl, inr}
+use borrow.Author.Tests.{ne-eqb}
 use Rattle.laws.proofs.Choices.{cond-has}
 use Rattle.blind.specs.declared.Blind.{Blind}
 use Rattle.blind.specs.Fields.{withFlags}
@@ -13,9 +16,17 @@ use Rattle.inputs.specs.Inputs.{aimed, followed, sapbp, acted}
 use Rattle.duties.specs.Rulers.{dutyOf, sameDuty, isFree}
 use Rattle.values.specs.declared.Flag.{Flag}
 use Rattle.values.specs.declared.Input.{Input}
+use Rattle.values.specs.Telegrams.{commandOf, inputOf}
 use Rattle.rules.specs.Rules.{ruled, withFlag, flagged, commanded, heeded}
 use Rattle.conduct.specs.Undisturbed.{flagsAfter, SameDuty, Aimless, Idle}
 use Rattle.conduct.proofs.Duties.{equal-duties, rule-duty, acted-rule}
+
+-- ---- kinds 4 to 7 command
+
+pub commands : (kind value : ℕ) → 4 ≤ kind → inputOf kind value ≡ Input.Command (commandOf kind value)
+unfolding inputOf
+commands kind value h =
+    rw (ne-eqb kind 0 (λ e. omega arith), ne-eqb kind 1 (λ e. omega arith), ne-eqb kind 2 (λ e. omega arith), ne-eqb kind 3 (λ e. omega arith))
 
 -- ---- under another duty than Free a command changes nothing, and nothing is kept
 

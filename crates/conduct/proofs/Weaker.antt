@@ -105,7 +105,7 @@ flag-duty flag b h =
     go Ruler.Forced h = not-forced flag h
 
 -- where somebody rules the duty is not Free
-ruled-duty : (b : Blind) → (rulerOf b ≡ Ruler.Nobody → ⊥) → isFree (dutyOf b) ≡ false
+pub ruled-duty : (b : Blind) → (rulerOf b ≡ Ruler.Nobody → ⊥) → isFree (dutyOf b) ≡ false
 unfolding dutyOf dutyUnder
 ruled-duty b h = go (ruler-rules b) h
   where

@@ -1,23 +1,21 @@
 -- Demand 2, its first sentences, of every blind of a panel: its duty is the one that rules, and under another duty than Free a telegram
 -- on the kinds 4 to 7 leaves it as it was.
 -- Assumes nothing.
-use Prim.Native.Nat.{ℕ, _≤_}
-use native.Mathlib.Omega.{arith}
+use Prim.Native.Nat.{ℕ}
 use mathlib.Core.Path.{_≡_, refl, ap, _∙_}
 use mathlib.Core.Bool.{Bool, true, false, cond}
 use mathlib.Core.List.{List, [], _∷_}
 use mathlib.Core.Option.{some}
 use lib.Dec.{eqb}
-use borrow.Author.Tests.{ne-eqb}
 use Rattle.blind.specs.declared.Blind.{Blind}
 use Rattle.duties.specs.declared.Duty.{Duty}
 use Rattle.values.specs.declared.Input.{Input}
 use Rattle.duties.specs.Rulers.{dutyOf, isFree}
 use Rattle.rules.specs.Rules.{heeded}
-use Rattle.values.specs.Telegrams.{commandOf, inputOf}
+use Rattle.values.specs.Telegrams.{commandOf}
 use Rattle.conduct.specs.Ruling.{Rules}
 use Rattle.conduct.proofs.Ruling.{duty-rules, only-duty}
-use Rattle.conduct.proofs.Idle.{dropped}
+use Rattle.conduct.proofs.Idle.{commands, dropped}
 use Rattle.link.specs.declared.Link.{Link}
 use Rattle.panel.specs.Panel.{Model}
 use Rattle.panel.specs.Sound.{Fine}
@@ -31,12 +29,6 @@ use Rattle.demands.proofs.BlindSeen.{telegram-seen}
 -- the duty of each blind of a panel is the one that rules, and no other is
 pub ruled : (tag : ℕ) (m : Model) (b : Blind) → blindAt tag m ≡ some b → Rules b (dutyOf b) × ((duty : Duty) → Rules b duty → duty ≡ dutyOf b)
 ruled tag m b here = (duty-rules b, only-duty b)
-
--- kinds 4 to 7 command
-commands : (kind value : ℕ) → 4 ≤ kind → inputOf kind value ≡ Input.Command (commandOf kind value)
-unfolding inputOf
-commands kind value h =
-    rw (ne-eqb kind 0 (λ e. omega arith), ne-eqb kind 1 (λ e. omega arith), ne-eqb kind 2 (λ e. omega arith), ne-eqb kind 3 (λ e. omega arith))
 
 unmoved : (value : ℕ) (links : List Link) (b : Blind) → isFree (dutyOf b) ≡ false → Commands links → heardBy value links b ≡ b
 unfolding heardBy

@@ -12,3 +12,4 @@ pub mod Calm
 pub mod Ruling
 pub mod Plain
 pub mod Finished
+pub mod Why

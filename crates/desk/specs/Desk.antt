@@ -22,6 +22,7 @@ use Rattle.removals.specs.Removals.{removeRule}
 use Rattle.writes.specs.Writes.{writeRule}
 use Rattle.wiring.specs.Wiring.{addRule, removeLinkRule}
 use Rattle.splices.specs.Splices.{spliceInRule, spliceOutRule}
+use Rattle.why.specs.Why.{explained}
 use Rattle.display.specs.Display.{percentOf}
 use Rattle.texts.specs.Text.{text}
 use Rattle.texts.specs.Sheet.{Sheet, sheet, puts, joined}
@@ -31,6 +32,7 @@ use Rattle.commands.specs.declared.Edit.{Edit}
 use Rattle.shows.specs.Numbers.{spaced, counted}
 use Rattle.shows.specs.Cells.{countedWith}
 use Rattle.panel_text.specs.PanelText.{panelText}
+use Rattle.reason_text.specs.ReasonText.{reasonText}
 use Rattle.desk.specs.declared.After.{After}
 
 -- A panel, and the sheet that the answers are written on.
@@ -82,3 +84,4 @@ carriedOut (Command.Edit edit) m = edited (carried (editRule edit) m noCells)
 carriedOut (Command.Tel address value) m = celled noReport (carried (telegramRule address value) m (row (replicate places noReport)))
 carriedOut (Command.Time dt) m = celled noReport (carried (stepRule dt) m (row (replicate places noReport)))
 carriedOut (Command.Percent raw) m = wrote m (percentText raw)
+carriedOut (Command.Why tag address value) m = wrote m (reasonText (explained tag address value m))

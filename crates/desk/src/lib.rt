@@ -17,6 +17,7 @@ use panel::calls::Answered;
 use panel_text::put_panel;
 use readings::inventory::inventory;
 use readings::strips::strip;
+use reason_text::put_reason;
 use removals::remove_blind;
 use shows::cells::put_with_cells;
 use shows::numbers::put_counted;
@@ -28,6 +29,7 @@ use telegrams::telegram;
 use terminals::STRIP;
 use texts::put_text;
 use time_steps::time_step;
+use why::why;
 use wiring::add_link;
 use wiring::remove_link;
 use writes::write_params;
@@ -66,6 +68,7 @@ pub fn carry_out(panel: Panel, command: Command, out: &mut [u8], at: usize) -> A
         Command::Tel(address, value) => send(panel, address, value, out, at),
         Command::Time(dt) => pass(panel, dt, out, at),
         Command::Percent(raw) => tell_percent(panel, raw, out, at),
+        Command::Why(tag, address, value) => tell_why(panel, tag, address, value, out, at),
     }
 }
 
@@ -137,6 +140,15 @@ fn tell_percent(panel: Panel, raw: u64, out: &mut [u8], at: usize) -> After
     } else {
         put_counted(out, at, OUT_OF_RANGE, 0)
     };
+    After { panel, at: next }
+}
+
+// What a telegram would do; none is sent.
+fn tell_why(panel: Panel, tag: u64, address: u64, value: u64, out: &mut [u8], at: usize) -> After
+    ensures { λ r. ⌜ deskOf r (now (out .exit)) ≡ carriedOut (Command.Why tag address value) (modelOf panel) (sheet (now (out .entry)) at) ⌝ }
+{
+    let reason = why(panel, tag, address, value);
+    let next = put_reason(out, at, reason);
     After { panel, at: next }
 }
 

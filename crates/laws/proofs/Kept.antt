@@ -3,7 +3,7 @@
 use Prim.Native.Nat.{suc, _≤_}
 use native.Mathlib.Omega.{arith}
 use mathlib.Core.Path.{_≡_, refl, sym, ap, _∙_}
-use mathlib.Core.Bool.{Bool, true, false, cond, true≢false}
+use mathlib.Core.Bool.{Bool, true, false, cond, _&&_, true≢false}
 use mathlib.Core.List.{List, [], _∷_}
 use lib.ListN.{length}
 use Rattle.laws.specs.Kept.{kept}
@@ -81,6 +81,18 @@ kept-kept {A} p q (x ∷ xs) f = go (p x) (q x) refl refl (kept-kept p q xs f)
     go false false e g ih = ih
 
 module _ {A : Type 0} where
+  -- those that pass one test and then another pass both
+  pub kept-both : (p q : A → Bool) (xs : List A) → kept p (kept q xs) ≡ kept (λ x. q x && p x) xs
+  unfolding kept
+  kept-both p q [] = refl
+  kept-both p q (x ∷ xs) = go (q x) (p x) refl (kept-both p q xs)
+    where
+      go : (b a : Bool) → p x ≡ a → kept p (kept q xs) ≡ kept (λ y. q y && p y) xs
+          → kept p (cond b (x ∷ kept q xs) (kept q xs)) ≡ cond (b && a) (x ∷ kept (λ y. q y && p y) xs) (kept (λ y. q y && p y) xs)
+      go true true e ih = rw e (ap (λ (l : List A). x ∷ l) ih)
+      go true false e ih = rw e ih
+      go false a e ih = ih
+
   -- those that pass one test and then another, and the other way round
   pub kept-swap : (p q : A → Bool) (xs : List A) → kept p (kept q xs) ≡ kept q (kept p xs)
   unfolding kept

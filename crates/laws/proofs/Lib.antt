@@ -3,6 +3,7 @@ pub mod Kept
 pub mod Maps
 pub mod Ors
 pub mod Copies
+pub mod Parts
 pub mod Outcomes
 pub mod Choices
 pub mod Deciding

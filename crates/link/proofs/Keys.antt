@@ -1,11 +1,12 @@
 -- The key of a link: for links in range its order is "by address, then tag, then kind", and a link is told by its key.
 -- Assumes nothing.
-use Prim.Native.Nat.{ℕ, _*_, _≤_, _<_}
+use Prim.Native.Nat.{ℕ, _+_, _*_, _≤_, _<_}
 use native.Mathlib.Omega.{arith}
-use native.Mathlib.Decide.{decLt}
+use native.Mathlib.Decide.{decLt, ℕ-discrete}
 use mathlib.Core.Path.{_≡_, sym, _∙_}
-use lib.Dec.{ltb}
-use borrow.Author.Tests.{lt-ltb, le-ltb}
+use mathlib.Core.Bool.{_&&_}
+use lib.Dec.{eqb, ltb}
+use borrow.Author.Tests.{lt-ltb, le-ltb, eq-eqb, ne-eqb}
 use Rattle.link.specs.declared.Link.{Link}
 use Rattle.link.specs.Link.{keyOf, Before, by-address, by-tag, by-kind}
 use Rattle.link.proofs.Ranges.{InRange}
@@ -48,3 +49,32 @@ key-under l address r = go (decLt (l .address) address)
     go : Dec (l .address < address) → ltb (keyOf l) (address * 65536) ≡ ltb (l .address) address
     go (yes h) = lt-ltb (keyOf l) (address * 65536) (omega (arith, r .tag-high, r .kind-high)) ∙ sym (lt-ltb (l .address) address h)
     go (no h) = le-ltb (keyOf l) (address * 65536) (omega arith) ∙ sym (le-ltb (l .address) address (omega arith))
+
+-- ---- the key without the kind: an address and a tag as one number
+
+abbrev pub stem : Link → ℕ
+stem l = l .address * 256 + l .tag
+
+-- a lower key has no higher stem
+pub key-stem : (a b : Link) → InRange b → keyOf a < keyOf b → stem a ≤ stem b
+unfolding keyOf
+key-stem a b rb h = omega (arith, rb .kind-high)
+
+-- a key is below the first key of a stem exactly if its stem is lower
+pub stem-under : (l : Link) (s : ℕ) → InRange l → ltb (keyOf l) (s * 256) ≡ ltb (stem l) s
+unfolding keyOf
+stem-under l s r = go (decLt (stem l) s)
+  where
+    go : Dec (stem l < s) → ltb (keyOf l) (s * 256) ≡ ltb (stem l) s
+    go (yes h) = lt-ltb (keyOf l) (s * 256) (omega (arith, r .kind-high)) ∙ sym (lt-ltb (stem l) s h)
+    go (no h) = le-ltb (keyOf l) (s * 256) (omega arith) ∙ sym (le-ltb (stem l) s (omega arith))
+
+-- a link has this stem exactly if it has the tag and the address
+pub stem-tells : (l : Link) (tag address : ℕ) → InRange l → tag < 256
+    → eqb (stem l) (address * 256 + tag) ≡ eqb tag (l .tag) && eqb (l .address) address
+stem-tells l tag address r low = go (ℕ-discrete tag (l .tag)) (ℕ-discrete (l .address) address)
+  where
+    go : Dec (tag ≡ l .tag) → Dec (l .address ≡ address) → eqb (stem l) (address * 256 + tag) ≡ eqb tag (l .tag) && eqb (l .address) address
+    go (yes e) (yes f) = rw (eq-eqb tag (l .tag) e, eq-eqb (l .address) address f) (eq-eqb (stem l) (address * 256 + tag) (omega arith))
+    go (yes e) (no g) = rw (eq-eqb tag (l .tag) e, ne-eqb (l .address) address g) (ne-eqb (stem l) (address * 256 + tag) (λ x. g (omega arith)))
+    go (no g) d = rw (ne-eqb tag (l .tag) g) (ne-eqb (stem l) (address * 256 + tag) (λ x. g (omega (arith, r .tag-high))))

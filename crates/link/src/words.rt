@@ -13,9 +13,11 @@ use kinds::class_of_kind;
 // last word, in 64 bits.
 pub const ADDRESS_STEP: u64 = 65536;
 
+pub const TAG_STEP: u64 = 256;
+
 const ADDRESSES: u32 = ADDRESS_STEP as u32;
 
-const TAGS: u32 = 256;
+const TAGS: u32 = TAG_STEP as u32;
 
 // What stands in an unused place: it is no link's word.
 pub const UNUSED: u32 = 0;

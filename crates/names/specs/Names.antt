@@ -33,6 +33,7 @@ table =
     ∷ ("strip", taking Name.Strip 0 false)
     ∷ ("inv", taking Name.Inv 0 false)
     ∷ ("percent", taking Name.Percent 1 false)
+    ∷ ("why", taking Name.Why 3 false)
     ∷ ("show", taking Name.Show 0 false)
     ∷ ("new", taking Name.New 0 false)
     ∷ []

@@ -20,6 +20,7 @@ pub enum Name {
     Tel,
     Time,
     Percent,
+    Why,
 }
 
 // What is known of a word: whether it names a command, and if so which, how many arguments that takes, and whether a set
@@ -50,7 +51,8 @@ impl Entry {
         let none = Entry::unknown();
         let new = none.or(word, b"new", Name::New, 0, false);
         let show = new.or(word, b"show", Name::Show, 0, false);
-        let percent = show.or(word, b"percent", Name::Percent, 1, false);
+        let why = show.or(word, b"why", Name::Why, 3, false);
+        let percent = why.or(word, b"percent", Name::Percent, 1, false);
         let inv = percent.or(word, b"inv", Name::Inv, 0, false);
         let strip = inv.or(word, b"strip", Name::Strip, 0, false);
         let time = strip.or(word, b"time", Name::Time, 1, false);

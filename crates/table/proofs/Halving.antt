@@ -11,6 +11,7 @@ use lib.ListN.{length, getD}
 use borrow.Author.Tests.{lt-ltb, le-ltb, ltb-true, ltb-false}
 use Rattle.link.specs.declared.Link.{Link}
 use Rattle.link.specs.Link.{keyOf, linkOf, nothing}
+use Rattle.link.proofs.Keys.{stem}
 use Rattle.link.proofs.Packed.{word-back}
 use Rattle.table.specs.declared.Table.{Table}
 use Rattle.table.specs.Links.{rank, startOf, linksIn, heldOf}
@@ -18,7 +19,7 @@ use Rattle.table.specs.Sound.{most, isSound}
 use Rattle.table.specs.Search.{middle, halved, isBelow, mostLooks, searched}
 use Rattle.table.proofs.Ranks.{Asc, rank-bounded, rank-reaches, rank-ends}
 use Rattle.table.proofs.Sound.{Fine, sound-reads}
-use Rattle.table.proofs.Spans.{start-key}
+use Rattle.table.proofs.Spans.{start-key, stem-key}
 use Rattle.table.proofs.Stores.{places, held-at}
 
 module _ (below : ℕ → Bool) where
@@ -170,3 +171,7 @@ module _ (t : Table) (sound : isSound (heldOf t) ≡ true) where
   -- the search for the first key of an address ends where the links of the address start
   pub address-searched : (address : ℕ) → searched (address * 65536) (inTable t) ≡ startOf address (heldOf t .links)
   address-searched address = sound-searched (address * 65536) ∙ start-key address (heldOf t .links) (sound-reads (heldOf t) sound .1 .ranged)
+
+  -- the search for the first key of a stem ends where its links start
+  pub stem-searched : (s : ℕ) → searched (s * 256) (inTable t) ≡ rank stem s (heldOf t .links)
+  stem-searched s = sound-searched (s * 256) ∙ stem-key s (heldOf t .links) (sound-reads (heldOf t) sound .1 .ranged)

@@ -11,14 +11,14 @@ use lib.Dec.{eqb, ltb, leb·suc-suc}
 use borrow.Author.Tests.{lt-ltb, le-ltb, eq-eqb, ne-eqb}
 use Rattle.link.specs.declared.Link.{Link}
 use Rattle.laws.specs.Kept.{kept}
-use Rattle.table.specs.Links.{rank, linksTo, noLinkTo, startOf, addressClass}
+use Rattle.table.specs.Links.{rank, linksTo, noLinkTo, linksOf, startOf, addressClass}
 use Rattle.link.specs.Link.{keyOf, nothing}
 use Rattle.kinds.specs.Kinds.{classOf}
 use Rattle.laws.proofs.Each.{Each, none, more, first, rest, Pairs, each-map}
-use Rattle.laws.proofs.Kept.{kept-yes, kept-not, kept-none, kept-same}
+use Rattle.laws.proofs.Kept.{kept-yes, kept-not, kept-none, kept-same, kept-both}
 use Rattle.table.proofs.Ranks.{Asc, rank-below, rank-none}
 use Rattle.link.proofs.Ranges.{InRange}
-use Rattle.link.proofs.Keys.{key-address, key-under}
+use Rattle.link.proofs.Keys.{key-address, key-under, stem, key-stem, stem-under, stem-tells}
 use Rattle.kinds.proofs.Classes.{class-some}
 use Rattle.table.proofs.Sound.{Fine}
 use Rattle.link.proofs.Neighbours.{Agree}
@@ -71,14 +71,18 @@ module _ {A : Type 0} (f : A → ℕ) where
 
 -- ---- links
 
--- the addresses of fine links do not fall
-pub addresses-up : (ls : List Link) → Each InRange ls → Asc keyOf ls → Up (λ l. l .address) ls
-addresses-up [] r asc = tt
-addresses-up (l ∷ ls) r asc = (up l ls (rest r) (asc .0), addresses-up ls (rest r) (asc .1))
+-- a measure that no lower key has higher does not fall over fine links
+measures-up : (f : Link → ℕ) → ((a b : Link) → InRange b → keyOf a < keyOf b → f a ≤ f b) → (ls : List Link) → Each InRange ls → Asc keyOf ls → Up f ls
+measures-up f rises [] r asc = tt
+measures-up f rises (l ∷ ls) r asc = (up l ls (rest r) (asc .0), measures-up f rises ls (rest r) (asc .1))
   where
-    up : (l : Link) (ls : List Link) → Each InRange ls → Each (λ y. keyOf l < keyOf y) ls → Each (λ y. l .address ≤ y .address) ls
+    up : (l : Link) (ls : List Link) → Each InRange ls → Each (λ y. keyOf l < keyOf y) ls → Each (λ y. f l ≤ f y) ls
     up l [] r h = none
-    up l (y ∷ ys) r h = more (key-address l y (first r) (first h)) (up l ys (rest r) (rest h))
+    up l (y ∷ ys) r h = more (rises l y (first r) (first h)) (up l ys (rest r) (rest h))
+
+-- so the addresses do not
+pub addresses-up : (ls : List Link) → Each InRange ls → Asc keyOf ls → Up (λ l. l .address) ls
+addresses-up = measures-up (λ l. l .address) key-address
 
 -- an address starts after all links below its first key
 pub start-key : (address : ℕ) (ls : List Link) → Each InRange ls → rank keyOf (address * 65536) ls ≡ startOf address ls
@@ -90,6 +94,33 @@ start-key address ls r =
 pub links-found : (address : ℕ) (ls : List Link) → Fine ls → take (length (linksTo address ls)) (drop (startOf address ls) ls) ≡ linksTo address ls
 unfolding linksTo startOf
 links-found address ls fine = span-at (λ l. l .address) address ls (addresses-up ls (fine .ranged) (fine .ascends))
+
+-- ---- the links of a tag among those of an address
+
+-- they are the links with one stem
+own-stem : (tag address : ℕ) (ls : List Link) → tag < 256 → Each InRange ls → linksTo address (linksOf tag ls) ≡ kept (At stem (address * 256 + tag)) ls
+unfolding linksTo linksOf
+own-stem tag address ls low r =
+    kept-both (λ l. eqb (l .address) address) (λ l. eqb tag (l .tag)) ls
+    ∙ sym (kept-same (At stem (address * 256 + tag)) (λ l. eqb tag (l .tag) && eqb (l .address) address) ls (each-map (λ l s. stem-tells l tag address s low) r))
+
+-- a stem starts after all links below its first key
+pub stem-key : (s : ℕ) (ls : List Link) → Each InRange ls → rank keyOf (s * 256) ls ≡ rank stem s ls
+unfolding rank
+stem-key s ls r = ap length (kept-same (λ l. ltb (keyOf l) (s * 256)) (λ l. ltb (stem l) s) ls (each-map (λ l i. stem-under l s i) r))
+
+module _ (tag address : ℕ) (ls : List Link) (low : tag < 256) (fine : Fine ls) where
+  -- they stand together, in table order
+  pub own-found : take (length (linksTo address (linksOf tag ls))) (drop (rank stem (address * 256 + tag) ls) ls) ≡ linksTo address (linksOf tag ls)
+  own-found =
+      rw (own-stem tag address ls low (fine .ranged))
+      (span-at stem (address * 256 + tag) ls (measures-up stem key-stem ls (fine .ranged) (fine .ascends)))
+
+  -- and end where the next tag starts
+  pub own-ends : rank stem (address * 256 + tag + 1) ls ≡ rank stem (address * 256 + tag) ls + length (linksTo address (linksOf tag ls))
+  own-ends = rw (own-stem tag address ls low (fine .ranged)) (rank-next stem (address * 256 + tag) ls)
+
+-- ---- the class of an address
 
 -- the class of an address is that of the link where it starts
 pub class-at-start : (address : ℕ) (ls : List Link) → Up (λ l. l .address) ls

@@ -1,18 +1,17 @@
 -- Delivery, link by link: what is left of the links, on the panel so far, leads to what all of them lead to.
 -- Assumes nothing.
 use Prim.Native.Nat.{ℕ, suc, _+_, _-_, _≤_, _<_}
-use native.Mathlib.Numerals.{add-one}
 use native.Mathlib.Omega.{arith}
 use mathlib.Core.Path.{_≡_, refl, sym, ap, ap₂, _∙_}
 use mathlib.Core.Bool.{Bool, true, false, cond}
 use mathlib.Core.List.{List, [], _∷_}
 use mathlib.Core.Option.{Option, none, some, Option·map}
 use lib.ListN.{length, getD, set, take, drop, length-set}
-use lib.Seq.{drop-cons}
 use lib.Dec.{eqb}
 use borrow.Author.Tests.{eqb-true}
 use Rattle.laws.specs.Fills.{tabulate}
 use Rattle.laws.proofs.Fills.{tabulate-length}
+use Rattle.laws.proofs.Parts.{first-next}
 use Rattle.tags.specs.Tags.{TagSet, places, tagsOf}
 use Rattle.blind.specs.declared.Blind.{Blind}
 use Rattle.outputs.specs.Reports.{noReport, report}
@@ -36,10 +35,6 @@ use Rattle.panel.proofs.Seats.{same-model, seat-present, present-tags, blind-wr
 use Rattle.telegrams.specs.Telegrams.{served, delivered}
 use Rattle.telegrams.proofs.Soundness.{handed-sound}
 use Rattle.telegrams.proofs.Told.{written, none-told, one-told, all-told}
-
--- the first of the elements from a place on, and those after it
-first-next : {A : Type 0} (ls : List A) (d : A) (i k : ℕ) → i < length ls → take (suc k) (drop i ls) ≡ getD ls i d ∷ take k (drop (i + 1) ls)
-first-next {A} ls d i k fits = ap (take (suc k)) (drop-cons ls i d fits) ∙ ap (λ (n : ℕ). getD ls i d ∷ take k (drop n ls)) (sym (add-one i))
 
 -- ---- one link
 

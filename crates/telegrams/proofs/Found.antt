@@ -19,9 +19,8 @@ use Rattle.kinds.specs.Kinds.{classOf}
 use Rattle.table.specs.Links.{Held, linksTo, noLinkTo, addressClass}
 use Rattle.link.specs.Link.{nothing}
 use Rattle.table.specs.Sound.{isSound}
-use Rattle.laws.proofs.Each as each
-use Rattle.laws.proofs.Each.{Each, more, first, rest, each-map, each-both}
-use Rattle.laws.proofs.Kept.{each-kept}
+use Rattle.laws.proofs.Each.{Each, first, rest, each-map, each-both}
+use Rattle.laws.proofs.Kept.{each-kept, kept-pass}
 use Rattle.table.proofs.Sound.{sound-reads}
 use Rattle.table.proofs.Spans.{class-shared}
 use Rattle.panel.specs.Panel.{Model}
@@ -30,16 +29,6 @@ use Rattle.telegrams.specs.Cases.{LinkTo, LinkBelow}
 -- ---- lists
 
 module _ {A : Type 0} where
-  -- each of those that are kept has passed
-  pub kept-pass : (p : A → Bool) (xs : List A) → Each (λ x. p x ≡ true) (kept p xs)
-  unfolding kept
-  kept-pass p [] = each.none
-  kept-pass p (x ∷ xs) = go (p x) refl (kept-pass p xs)
-    where
-      go : (b : Bool) → p x ≡ b → Each (λ y. p y ≡ true) (kept p xs) → Each (λ y. p y ≡ true) (cond b (x ∷ kept p xs) (kept p xs))
-      go true e ih = more e ih
-      go false e ih = ih
-
   -- one of those that are kept passes a second test: one passes both
   any-kept : (p q : A → Bool) (xs : List A) → any p (kept q xs) ≡ any (λ x. q x && p x) xs
   unfolding kept any

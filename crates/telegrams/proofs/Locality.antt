@@ -22,12 +22,11 @@ use Rattle.rules.specs.Rules.{heeded}
 use Rattle.values.specs.Telegrams.{inputOf}
 use Rattle.link.specs.declared.Link.{Link}
 use Rattle.laws.specs.Kept.{kept}
-use Rattle.laws.proofs.Kept.{kept-swap}
 use Rattle.kinds.specs.Kinds.{classOf}
 use Rattle.table.specs.Links.{linksTo, noLinkTo, linksOf, addressClass}
-use Rattle.laws.proofs.Each.{Each, first}
-use Rattle.laws.proofs.Kept.{each-kept, kept-length}
-use Rattle.table.proofs.Sound.{Fine, sound-reads, sound-decided}
+use Rattle.laws.proofs.Each.{Each, first, each-map, each-both}
+use Rattle.laws.proofs.Kept.{each-kept, kept-length, kept-swap, kept-pass}
+use Rattle.table.proofs.Sound.{sound-reads, sound-decided}
 use Rattle.table.proofs.Spans.{class-shared}
 use Rattle.panel.specs.Panel.{Seat, Model, eachSeat, onBlind}
 use Rattle.panel.specs.Sound.{Sound}
@@ -38,7 +37,6 @@ use Rattle.panel.specs.Reports.{SeenAt}
 use Rattle.panel.proofs.Cells.{cell-seen}
 use Rattle.telegrams.specs.Telegrams.{isOutside, linkChecks, served, delivered, afterTelegram, telegramRule}
 use Rattle.telegrams.specs.Locality.{reached, heardBy}
-use Rattle.telegrams.proofs.Found.{kept-pass}
 
 -- ---- one tag in a delivery
 
@@ -88,22 +86,19 @@ module _ (tag address : ℕ) (m : Model) where
   by-address : Link → Bool
   by-address link = eqb (link .address) address
 
-  -- it has the class of its address
+  -- each has the class of the address
+  pub own-classes : Sound m → Each (λ l. classOf (l .kind) ≡ addressClass address (m .table .links)) (reached tag address m)
+  unfolding linksOf linksTo by-tag by-address
+  own-classes sound =
+      let ls = m .table .links in
+      let fine = sound-reads (m .table) (sound-decided (m .table) .1 (sound .links)) .1 in
+      each-map (λ l (class, at). class (eqb-true (l .address) address at))
+      (each-both (each-kept by-address (linksOf tag ls) (each-kept by-tag ls (class-shared address ls (fine .agrees)))) (kept-pass by-address (linksOf tag ls)))
+
   pub own-class : Sound m → (link : Link) (rest : List Link) → reached tag address m ≡ link ∷ rest
       → classOf (link .kind) ≡ addressClass address (m .table .links)
-  unfolding linksOf linksTo by-tag by-address
   own-class sound link rest own =
-      first (subst (Each Classed) own (each-kept by-address (linksOf tag ls) (each-kept by-tag ls (class-shared address ls (fine .agrees)))))
-      (eqb-true (link .address) address (first (subst (Each (λ l. by-address l ≡ true)) own (kept-pass by-address (linksOf tag ls)))))
-    where
-      ls : List Link
-      ls = m .table .links
-
-      fine : Fine ls
-      fine = sound-reads (m .table) (sound-decided (m .table) .1 (sound .links)) .1
-
-      Classed : Link → Type 0
-      Classed l = l .address ≡ address → classOf (l .kind) ≡ addressClass address ls
+      first (subst (Each (λ l. classOf (l .kind) ≡ addressClass address (m .table .links))) own (own-classes sound))
 
   -- so the address has a link
   pub own-linked : (link : Link) (rest : List Link) → reached tag address m ≡ link ∷ rest → noLinkTo address (m .table .links) ≡ false

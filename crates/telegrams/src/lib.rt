@@ -152,7 +152,8 @@ fn judge(sound: bool, words: &[u32], held: usize, address: u64, value: u64) -> R
     }
 }
 
-fn is_outside(address: u64, value: u64) -> bool
+// Whether a telegram cannot have this address or this value.
+pub fn is_outside(address: u64, value: u64) -> bool
     ensures { λ r. ⌜ r ≡ isOutside address value ⌝ }
 {
     if !is_address(address) {

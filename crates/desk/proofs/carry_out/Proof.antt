@@ -56,6 +56,9 @@ returns-7 c = of-command _ _ (c .before .before .before .before .before .command
 returns-8 : tie.Need-returns-8
 returns-8 c = of-command _ _ (c .before .before .before .before .before .command4 .given .1) (c .before .before .tell-percent .ensures)
 
+returns-9 : tie.Need-returns-9
+returns-9 c = of-command _ _ (c .before .before .before .before .before .command5 .given .1) (c .before .before .tell-why .ensures)
+
 pub carry-out-spec : {M : Type 1} → statement M
 carry-out-spec =
     tie.close
@@ -63,7 +66,7 @@ carry-out-spec =
     (λ c. search needs) (λ c. search needs) (λ c κs. search needs) (λ c κs. search needs) (λ c. search needs) (λ c κs. search needs)
     (λ c. search needs) (λ c κs. search needs) (λ c. search needs) (λ c κs. search needs) (λ c. search needs) (λ c κs. search needs)
     (λ c κs. search needs) (λ c. search needs) (λ c κs. search needs) (λ c. search needs) (λ c κs. search needs) (λ c. search needs)
-    (λ c κs. search needs) (λ c. search needs)
+    (λ c κs. search needs) (λ c. search needs) (λ c κs. search needs) (λ c. search needs)
     returns
     (λ c. search needs)
     returns-2
@@ -78,4 +81,6 @@ carry-out-spec =
     (λ c. search needs)
     returns-7
     (λ c. search needs)
-    returns-8)
+    returns-8
+    (λ c. search needs)
+    returns-9)

@@ -12,7 +12,8 @@ call-spec =
     (tie.spec
     (λ c. search needs) (λ c. search needs) (λ c. search needs) (λ c. search needs) (λ c. search needs) (λ c. search needs)
     (λ c. search needs) (λ c. search needs) (λ c κs. search needs) (λ c. search needs) (λ c. search needs) (λ c κs. search needs)
-    (λ c. search needs) (λ c. search needs) (λ c. search needs) (λ c. search needs) (λ c. search needs) (λ c. search needs) (λ c. search needs)
+    (λ c. search needs) (λ c. search needs) (λ c. search needs) (λ c. search needs) (λ c. search needs) (λ c. search needs)
+    (λ c. search needs) (λ c. search needs)
     (λ c. simp (c .enum-told .given .1))
     (λ c. simp (c .enum-told2 .given .1))
     (λ c. simp (c .enum-told3 .given .1))
@@ -26,4 +27,5 @@ call-spec =
     (λ c. simp (c .enum-told11 .given .1))
     (λ c. simp (c .enum-told12 .given .1))
     (λ c. simp (c .enum-told13 .given .1))
-    (λ c. simp (c .enum-told14 .given .1)))
+    (λ c. simp (c .enum-told14 .given .1))
+    (λ c. simp (c .enum-told15 .given .1)))
