@@ -40,7 +40,14 @@ pub fn why(panel: Panel, tag: u64, address: u64, value: u64) -> Reason
     }
     let blind = panel.blinds[tag as usize];
     let byte = value as u8;
-    let judged = judge(&panel.table.words, panel.table.count, span, blind, byte);
+    let judged = judge(
+        &panel.table.words,
+        panel.table.count,
+        span.start,
+        span.end,
+        blind,
+        byte,
+    );
     judged.reason(byte)
 }
 
@@ -74,13 +81,13 @@ fn find(words: &[u32], held: usize, tag: u64, address: u64) -> Span
 }
 
 // Each link is judged on the blind that the one before it left; the last one stays.
-fn judge(words: &[u32], held: usize, span: Span, blind: Blind, value: u8) -> Judged
-    requires { ⌜ span .start ≤ span .end ⌝ }
-    requires { ⌜ span .end ≤ length (linksIn held (now words)) ⌝ }
-    ensures { λ r. ⌜ r ≡ judgedLast value (take (span .end - span .start) (drop (span .start) (linksIn held (now (words .entry))))) (unjudged blind) ⌝ }
+fn judge(words: &[u32], held: usize, start: usize, end: usize, blind: Blind, value: u8) -> Judged
+    requires { ⌜ start ≤ end ⌝ }
+    requires { ⌜ end ≤ length (linksIn held (now words)) ⌝ }
+    ensures { λ r. ⌜ r ≡ judgedLast value (take (end - start) (drop start (linksIn held (now (words .entry))))) (unjudged blind) ⌝ }
 {
     let mut judged = Judged::unjudged(blind);
-    for place in span.start..span.end {
+    for place in start..end {
         let link = Link::of(words[place]);
         judged = judged.next(link.kind, value);
     }

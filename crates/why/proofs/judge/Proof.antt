@@ -14,10 +14,10 @@ use Rattle.why.proofs.judge.Statement.{statement}
 use Rattle.why.proofs.judge.Tie as tie
 
 abbrev Inv-loop : tie.InvT-loop
-Inv-loop words held value judged₀ place₀ place-end judged place = Judging value (linksIn held words) place₀ place-end judged₀ judged place
+Inv-loop words held start end value judged₀ place₀ judged place = Judging value (linksIn held words) start end judged₀ judged place
 
 abbrev μ-loop : tie.MeasureT-loop
-μ-loop words held value judged₀ place₀ place-end judged place = place-end - place
+μ-loop words held start end value judged₀ place₀ judged place = end - place
 
 -- the table that is read
 abbrev table : tie.Start Inv-loop μ-loop → Table
@@ -27,7 +27,7 @@ abbrev start : tie.At-loop Inv-loop μ-loop → tie.Start Inv-loop μ-loop
 start c = c .before .before .before
 
 -- a place before the end is in the table
-inside : (c : tie.At-loop Inv-loop μ-loop) → c .loop .place < start c .args .span .end
+inside : (c : tie.At-loop Inv-loop μ-loop) → c .loop .place < start c .args .end
     → (c .loop .place < start c .args .held) × (c .loop .place < length (now (start c .args .words)))
 inside c h =
     let held = places (table (start c)) in
