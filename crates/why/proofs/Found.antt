@@ -1,6 +1,6 @@
 -- Where the links of a tag at an address stand in a sound table, between the ends of two searches, and whether there are any.
 -- Assumes nothing.
-use Prim.Native.Nat.{ℕ, _+_, _-_, _*_, _<_}
+use Prim.Native.Nat.{ℕ, _+_, _-_, _*_, _≤_}
 use native.Mathlib.Omega.{arith}
 use mathlib.Core.Path.{_≡_, refl, sym, ap, _∙_}
 use mathlib.Core.Bool.{true, false}
@@ -8,6 +8,7 @@ use mathlib.Core.List.{List, [], _∷_}
 use lib.ListN.{length, take, drop, length-drop}
 use lib.Seq.{length-take-le}
 use Rattle.link.specs.declared.Link.{Link}
+use Rattle.link.specs.Link.{lastTag}
 use Rattle.link.proofs.Keys.{stem}
 use Rattle.table.specs.declared.Table.{Table}
 use Rattle.table.specs.Links.{rank, heldOf, linksTo, linksOf}
@@ -19,7 +20,7 @@ use Rattle.table.proofs.Spans.{own-found, own-ends}
 use Rattle.table.proofs.Halving.{inTable, stem-searched}
 use Rattle.why.specs.Why.{isNone, Spans}
 
-module _ (t : Table) (tag address : ℕ) (sound : isSound (heldOf t) ≡ true) (low : tag < 64) {start end : ℕ}
+module _ (t : Table) (tag address : ℕ) (sound : isSound (heldOf t) ≡ true) (low : tag ≤ lastTag) {start end : ℕ}
     (from : start ≡ searched (address * 65536 + tag * 256) (inTable t)) (to : end ≡ searched (address * 65536 + tag * 256 + 256) (inTable t)) where
   fine : Fine (heldOf t .links)
   fine = sound-reads (heldOf t) sound .1

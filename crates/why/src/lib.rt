@@ -11,10 +11,11 @@ use reasons::Judged;
 use reasons::Reason;
 use table::search::below;
 use tags::PLACES;
-ghost use Prim.Native.Nat.{_<_, _≤_, _-_};
+ghost use Prim.Native.Nat.{_≤_, _-_};
 ghost use mathlib.Core.Path.{_≡_};
 ghost use mathlib.Core.Bool.{true};
 ghost use lib.ListN.{length, take, drop};
+ghost use Rattle.link.specs.Link.{lastAddress, lastTag};
 ghost use Rattle.table.specs.Links.{linksIn, heldIn, linksTo, linksOf};
 ghost use Rattle.table.specs.Sound as ofLinks;
 ghost use Rattle.panel.specs.Panel.{modelOf};
@@ -70,8 +71,8 @@ struct Span {
 fn find(words: &[u32], held: usize, tag: u64, address: u64) -> Span
     requires { ⌜ ofLinks.isSound (heldIn held (now words)) ≡ true ⌝ }
     requires { ⌜ length (now words) ≡ ofLinks.most ⌝ }
-    requires { ⌜ tag < 64 ⌝ }
-    requires { ⌜ address ≤ 65535 ⌝ }
+    requires { ⌜ tag ≤ lastTag ⌝ }
+    requires { ⌜ address ≤ lastAddress ⌝ }
     ensures { λ r. ⌜ Spans (linksTo address (linksOf tag (linksIn held (now (words .entry))))) (linksIn held (now (words .entry))) (r .start) (r .end) ⌝ }
 {
     let first = address * ADDRESS_STEP + tag * TAG_STEP;

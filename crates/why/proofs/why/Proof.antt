@@ -129,7 +129,7 @@ why-spec =
     (λ c κs.
     let three = c .before .before .before in
     let asks = question (ranged three) in
-    (table-sound _ (sound (ranged three .before .before)), (search needs, (omega (arith, asks .tag-high), asks .telegram .address-high))))
+    (table-sound _ (sound (ranged three .before .before)), (search needs, (asks .tag-high, asks .telegram .address-high))))
     returns-4
     (λ c. omega (arith, question (ranged (there (found c))) .tag-high))
     (λ c. omega (arith, question (ranged (there (found c))) .tag-high, many (there (found c))))
