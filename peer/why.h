@@ -1,5 +1,5 @@
 /* K1 of document 02, "Why didn't it move?": what one telegram would do to one
-   blind, and if nothing, why. It is no call of the panel, and nothing is
+   blind, or why it would do nothing. It is no call of the panel, and nothing is
    sent. */
 
 #ifndef WHY_H

@@ -9,7 +9,7 @@ use Rattle.laws.specs.Every.{every}
 use Rattle.laws.proofs.Choices.{both-left, both-right}
 use Rattle.answers.specs.Answers.{Check, first, refusal}
 
--- of a list of tests: one that is passed gives its answer, and one that is not is left out
+-- of a list of tests: one that holds gives its answer, and one that does not is left out
 module _ {A : Type 0} (otherwise : A) (t : Bool) (a : A) (rest : List (Bool × A)) where
   pub first-is : t ≡ true → first otherwise ((t, a) ∷ rest) ≡ a
   unfolding first

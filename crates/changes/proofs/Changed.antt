@@ -16,7 +16,7 @@ use Rattle.blind.specs.declared.Flags.{Flags}
 use Rattle.blind.specs.declared.Motion.{Motion}
 use Rattle.blind.specs.declared.Blind.{Blind}
 use Rattle.conduct.specs.Courses.{Stands}
-use Rattle.changes.specs.Changes.{forcedNumber, lastNumber, directionNumber, goalNumber}
+use Rattle.blind.specs.Numbers.{forcedNumber, lastNumber, directionNumber, goalNumber}
 use Rattle.changes.specs.Changes.{sameFlags, sameRun, isOff, isWaiting, isRunning, sameMotion, changed}
 
 -- ---- each case is told by its number

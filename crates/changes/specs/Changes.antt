@@ -4,34 +4,11 @@
 use Prim.Native.Nat.{ℕ}
 use mathlib.Core.Bool.{Bool, false, not, _&&_, Bool·beq}
 use lib.Dec.{eqb}
-use Rattle.heights.specs.declared.Direction.{Direction}
-use Rattle.runs.specs.declared.Goal.{Goal}
-use Rattle.runs.specs.declared.Last.{Last}
 use Rattle.runs.specs.declared.Run.{Run}
-use Rattle.blind.specs.declared.Forced.{Forced}
 use Rattle.blind.specs.declared.Flags.{Flags}
 use Rattle.blind.specs.declared.Motion.{Motion}
 use Rattle.blind.specs.declared.Blind.{Blind}
-
--- A number for each case: two cases are the same when their numbers are.
-abbrev pub forcedNumber : Forced → ℕ
-forcedNumber Forced.No = 0
-forcedNumber Forced.Up = 1
-forcedNumber Forced.Down = 2
-
-abbrev pub lastNumber : Last → ℕ
-lastNumber Last.Either = 0
-lastNumber Last.Up = 1
-lastNumber Last.Down = 2
-
-abbrev pub directionNumber : Direction → ℕ
-directionNumber Direction.Up = 1
-directionNumber Direction.Down = 2
-
-abbrev pub goalNumber : Goal → ℕ
-goalNumber Goal.Full = 0
-goalNumber Goal.Step = 1
-goalNumber Goal.Position = 2
+use Rattle.blind.specs.Numbers.{forcedNumber, lastNumber, directionNumber, goalNumber}
 
 unfoldable pub sameFlags : Flags → Flags → Bool
 sameFlags f g =

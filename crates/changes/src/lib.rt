@@ -8,7 +8,7 @@ use runs::Goal;
 use runs::Last;
 use runs::Run;
 ghost use mathlib.Core.Path.{_≡_};
-ghost use Rattle.changes.specs.Changes.{forcedNumber, lastNumber, directionNumber, goalNumber};
+ghost use Rattle.blind.specs.Numbers.{forcedNumber, lastNumber, directionNumber, goalNumber};
 ghost use Rattle.changes.specs.Changes.{sameFlags, sameRun, isOff, isWaiting, isRunning, sameMotion, changed};
 
 pub fn is_changed(before: Blind, after: Blind) -> bool

@@ -9,13 +9,10 @@ use lib.Dec.{eqb}
 use Rattle.laws.specs.Fills.{tabulate}
 use Rattle.tags.specs.Tags.{places}
 use Rattle.params.specs.Numbers.{numbersOf}
-use Rattle.heights.specs.declared.Direction.{Direction}
-use Rattle.runs.specs.declared.Last.{Last}
-use Rattle.runs.specs.declared.Goal.{Goal}
 use Rattle.runs.specs.declared.Run.{Run}
-use Rattle.blind.specs.declared.Forced.{Forced}
 use Rattle.blind.specs.declared.Motion.{Motion}
 use Rattle.blind.specs.declared.Blind.{Blind}
+use Rattle.blind.specs.Numbers.{forcedNumber, lastNumber, directionNumber, goalNumber}
 use Rattle.link.specs.declared.Link.{Link}
 use Rattle.panel.specs.Panel.{Seat, Model, reseated}
 
@@ -23,25 +20,6 @@ use Rattle.panel.specs.Panel.{Seat, Model, reseated}
 
 abbrev pub bit : Bool → ℕ
 bit b = cond b 1 0
-
-abbrev pub forcedNumber : Forced → ℕ
-forcedNumber Forced.No = 0
-forcedNumber Forced.Up = 1
-forcedNumber Forced.Down = 2
-
-abbrev pub lastNumber : Last → ℕ
-lastNumber Last.Either = 0
-lastNumber Last.Up = 1
-lastNumber Last.Down = 2
-
-abbrev pub directionNumber : Direction → ℕ
-directionNumber Direction.Up = 1
-directionNumber Direction.Down = 2
-
-abbrev pub goalNumber : Goal → ℕ
-goalNumber Goal.Full = 0
-goalNumber Goal.Step = 1
-goalNumber Goal.Position = 2
 
 abbrev pub runRow : Run → List ℕ
 runRow run = directionNumber (run .direction) ∷ goalNumber (run .goal) ∷ run .length ∷ []

@@ -27,7 +27,7 @@ use Rattle.conduct.proofs.Weaker.{ruled-duty}
 use Rattle.reasons.specs.declared.Reason.{Reason}
 use Rattle.reasons.specs.declared.Judged.{Judged}
 use Rattle.reasons.specs.Reasons.{judged, isDropped, left, reasonOf}
-use Rattle.reasons.specs.Cases.{Dropped, Lost, WaitsFor, waiting, linkCases, Acted, Delayed}
+use Rattle.reasons.specs.Cases.{Under, LacksPosition, WaitsFor, waiting, linkCases, Acted, WaitsAfter}
 use Rattle.reasons.proofs.Exact.{aimless-decides, reason-exactly}
 
 -- ---- the order that waits
@@ -66,15 +66,15 @@ module _ (value kind : ℕ) (b : Blind) where
   it = judged value kind b
 
   -- a command under a ruler changes nothing
-  pub dropped-keeps : {ruler : Ruler} → (ruler ≡ Ruler.Nobody → ⊥) → Dropped ruler it → it .after ≡ it .before
-  dropped-keeps {ruler} somebody d =
+  pub under-keeps : {ruler : Ruler} → (ruler ≡ Ruler.Nobody → ⊥) → Under ruler it → it .after ≡ it .before
+  under-keeps {ruler} somebody d =
       ap (λ (input : Input). heeded input b) (commands kind value (d .command))
       ∙ dropped (commandOf kind value) b (ruled-duty b (λ e. somebody (sym (only-ruler b ruler (d .ruled)) ∙ e)))
 
   -- neither does a position that is asked for while it is not valid
-  pub lost-keeps : Lost value it → it .after ≡ it .before
+  pub lacking-keeps : LacksPosition value it → it .after ≡ it .before
   unfolding inputOf commandOf
-  lost-keeps l =
+  lacking-keeps l =
       ap (λ (k : ℕ). heeded (inputOf k value) b) (l .position)
       ∙ aimless-keeps (Command.Position value) b (drops (aimed value b) (aimless-decides value b .tested (l .not-up, l .not-down, l .unknown)))
 
@@ -97,21 +97,21 @@ module _ (value kind : ℕ) (b : Blind) where
             no-order = λ rest x. order (subst (λ (n : ℕ). WaitsFor n (it .after .motion)) (sym (left-told x)) x);
           }
 
-      unruled : Acted value it → {ruler : Ruler} → (ruler ≡ Ruler.Nobody → ⊥) → Dropped ruler it → ⊥
-      unruled a somebody d = a .changed (dropped-keeps somebody d)
+      unruled : Acted value it → {ruler : Ruler} → (ruler ≡ Ruler.Nobody → ⊥) → Under ruler it → ⊥
+      unruled a somebody d = a .changed (under-keeps somebody d)
 
       holds : Acted value it → First Reason.AlreadySo (linkCases value it) Reason.Acts
       holds a =
           later (fits (a .of-class))
           (later (unruled a wind) (later (unruled a rain) (later (unruled a frost) (later (unruled a forced)
-          (later (λ l. a .changed (lost-keeps l)) (later (a .no-order (left (it .after .motion))) (here (a .changed))))))))
+          (later (λ l. a .changed (lacking-keeps l)) (later (a .no-order (left (it .after .motion))) (here (a .changed))))))))
 
   -- ---- waiting
 
-  pub delayed-exactly : (rest : ℕ) → (reasonOf value it ≡ Reason.Waiting rest) ↔ Delayed rest value it
-  delayed-exactly rest = (λ e. reads (exact .in-its-case (Reason.Waiting rest) e), λ d. exact .only-there (Reason.Waiting rest) (holds d))
+  pub waits-exactly : (rest : ℕ) → (reasonOf value it ≡ Reason.Waiting rest) ↔ WaitsAfter rest value it
+  waits-exactly rest = (λ e. reads (exact .in-its-case (Reason.Waiting rest) e), λ d. exact .only-there (Reason.Waiting rest) (holds d))
     where
-      nobody : (Dropped Ruler.Wind it → ⊥) → (Dropped Ruler.Rain it → ⊥) → (Dropped Ruler.Frost it → ⊥) → (Dropped Ruler.Forced it → ⊥)
+      nobody : (Under Ruler.Wind it → ⊥) → (Under Ruler.Rain it → ⊥) → (Under Ruler.Frost it → ⊥) → (Under Ruler.Forced it → ⊥)
           → mud ≤ kind → RuledBy b Ruler.Nobody
       nobody w r f o h = go (rulerOf b) (ruler-rules b)
         where
@@ -122,16 +122,16 @@ module _ (value kind : ℕ) (b : Blind) where
           go Ruler.Frost x = absurd (f (record { command = h; ruled = x }))
           go Ruler.Forced x = absurd (o (record { command = h; ruled = x }))
 
-      reads : {n : ℕ} → First Reason.AlreadySo (linkCases value it) (Reason.Waiting n) → Delayed n value it
+      reads : {n : ℕ} → First Reason.AlreadySo (linkCases value it) (Reason.Waiting n) → WaitsAfter n value it
       reads (later class (later w (later r (later f (later o (later p (here order))))))) =
           record { of-class = omega (arith, class); free = nobody w r f o; placed = p; order = order }
       reads (later class (later w (later r (later f (later o (later p (later q (later a x)))))))) =
           let e = none-holds x in absurd (let z : _≡_ {A = ℕ} 0 1 = cc in omega arith)
 
-      unruled : {n : ℕ} → Delayed n value it → {ruler : Ruler} → (ruler ≡ Ruler.Nobody → ⊥) → Dropped ruler it → ⊥
+      unruled : {n : ℕ} → WaitsAfter n value it → {ruler : Ruler} → (ruler ≡ Ruler.Nobody → ⊥) → Under ruler it → ⊥
       unruled d {ruler} somebody x = somebody (sym (only-ruler b ruler (x .ruled)) ∙ only-ruler b Ruler.Nobody (d .free (x .command)))
 
-      holds : {n : ℕ} → Delayed n value it → First Reason.AlreadySo (linkCases value it) (Reason.Waiting n)
+      holds : {n : ℕ} → WaitsAfter n value it → First Reason.AlreadySo (linkCases value it) (Reason.Waiting n)
       holds {n} d =
           let time : left (it .after .motion) ≡ n = left-told (d .order) in
           subst (λ (k : ℕ). First Reason.AlreadySo (linkCases value it) (Reason.Waiting k)) time

@@ -27,7 +27,7 @@ use Rattle.changes.proofs.Changed.{changed-decides}
 use Rattle.reasons.specs.declared.Reason.{Reason}
 use Rattle.reasons.specs.declared.Judged.{Judged}
 use Rattle.reasons.specs.Reasons.{rulerNumber, isUnder, isDropped, lacksPosition, waits, left, linkTests, reasonOf}
-use Rattle.reasons.specs.Cases.{Dropped, Lost, WaitsFor, waiting, linkCases}
+use Rattle.reasons.specs.Cases.{Under, LacksPosition, WaitsFor, waiting, linkCases}
 
 -- ---- who rules
 
@@ -43,7 +43,7 @@ ruler-told Ruler.Rain = refl
 ruler-told Ruler.Frost = refl
 ruler-told Ruler.Forced = refl
 
-under-decides : (ruler : Ruler) (j : Judged) → Decides (isUnder ruler j) (Dropped ruler j)
+under-decides : (ruler : Ruler) (j : Judged) → Decides (isUnder ruler j) (Under ruler j)
 unfolding isUnder
 under-decides ruler j =
     said
@@ -69,9 +69,9 @@ aimless-decides value b = go (wayTo (b .params) (target value (b .params)) (b .p
     go way false false true e f v = never (λ (not-up, not-down, unknown). never-both (b .place .valid) v unknown)
     go way false false false e f v = record { holds = λ t. (eqb-false value 0 e, eqb-false value 255 f, v); tested = λ a. refl }
 
-lost-decides : (value : ℕ) (j : Judged) → Decides (lacksPosition value j) (Lost value j)
+lacks-decides : (value : ℕ) (j : Judged) → Decides (lacksPosition value j) (LacksPosition value j)
 unfolding lacksPosition
-lost-decides value j =
+lacks-decides value j =
     said
     (λ (k, (up, down, v)). record { position = k; not-up = up; not-down = down; unknown = v })
     (λ l. (l .position, (l .not-up, l .not-down, l .unknown)))
@@ -101,7 +101,7 @@ module _ (value : ℕ) (j : Judged) (stands : Stands (j .before) (j .after)) whe
       (told Reason.UnderRain (under-decides Ruler.Rain j)
       (told Reason.UnderFrost (under-decides Ruler.Frost j)
       (told Reason.UnderForced (under-decides Ruler.Forced j)
-      (told Reason.NoPosition (lost-decides value j)
+      (told Reason.NoPosition (lacks-decides value j)
       (told (Reason.Waiting (left (j .after .motion))) (waits-decide (j .after .motion))
       (told Reason.Acts (changed-decides (j .before) (j .after) stands) all-told)))))))
 

@@ -16,12 +16,12 @@ use Rattle.reasons.specs.declared.Judged.{Judged}
 use Rattle.reasons.specs.Reasons.{left}
 
 -- A command, kind 4 or above, for a blind that is ruled by this one.
-pub record Dropped (ruler : Ruler) (j : Judged) : Type 0 where
+pub record Under (ruler : Ruler) (j : Judged) : Type 0 where
   pub command : mud ≤ j .kind
   pub ruled : RuledBy (j .before) ruler
 
 -- SAPBP: "0 is a full run up, 255 a full run down, valid or not. For others, dropped when the position isn't valid".
-pub record Lost (value : ℕ) (j : Judged) : Type 0 where
+pub record LacksPosition (value : ℕ) (j : Judged) : Type 0 where
   pub position : j .kind ≡ sapbp
   pub not-up : value ≡ 0 → ⊥
   pub not-down : value ≡ 255 → ⊥
@@ -35,11 +35,11 @@ pub data WaitsFor (rest : ℕ) : Motion → Type 0 where
 abbrev pub linkCases : ℕ → Judged → List (Case Reason)
 linkCases value j =
     case Reason.WrongClass (classOf (j .kind) < value)
-    ∷ case Reason.UnderWind (Dropped Ruler.Wind j)
-    ∷ case Reason.UnderRain (Dropped Ruler.Rain j)
-    ∷ case Reason.UnderFrost (Dropped Ruler.Frost j)
-    ∷ case Reason.UnderForced (Dropped Ruler.Forced j)
-    ∷ case Reason.NoPosition (Lost value j)
+    ∷ case Reason.UnderWind (Under Ruler.Wind j)
+    ∷ case Reason.UnderRain (Under Ruler.Rain j)
+    ∷ case Reason.UnderFrost (Under Ruler.Frost j)
+    ∷ case Reason.UnderForced (Under Ruler.Forced j)
+    ∷ case Reason.NoPosition (LacksPosition value j)
     ∷ case (Reason.Waiting (left (j .after .motion))) (WaitsFor (left (j .after .motion)) (j .after .motion))
     ∷ case Reason.Acts (j .after ≡ j .before → ⊥)
     ∷ []
@@ -51,8 +51,8 @@ pub record Acted (value : ℕ) (j : Judged) : Type 0 where
   pub no-order : (rest : ℕ) → WaitsFor rest (j .after .motion) → ⊥
 
 -- "'Waiting' is given when an order waits after the delivery, changed or not": of what is not dropped.
-pub record Delayed (rest value : ℕ) (j : Judged) : Type 0 where
+pub record WaitsAfter (rest value : ℕ) (j : Judged) : Type 0 where
   pub of-class : value ≤ classOf (j .kind)
   pub free : mud ≤ j .kind → RuledBy (j .before) Ruler.Nobody
-  pub placed : Lost value j → ⊥
+  pub placed : LacksPosition value j → ⊥
   pub order : WaitsFor rest (j .after .motion)

@@ -22,8 +22,6 @@ ghost use lib.Dec.{eqb, leb, ltb};
 ghost use Rattle.kinds.specs.Kinds as kinds;
 ghost use Rattle.duties.specs.Rulers.{rulerOf};
 ghost use Rattle.inputs.specs.Inputs.{aimed};
-ghost use Rattle.values.specs.Telegrams.{inputOf};
-ghost use Rattle.rules.specs.Rules.{heeded};
 ghost use Rattle.changes.specs.Changes.{changed};
 ghost use Rattle.reasons.specs.Reasons.{numberOf, unjudged, judged, under, isDropped, waits, left, reasonOf};
 
@@ -108,7 +106,7 @@ impl Judged {
         let after = self.after;
         let settled = settled(before, after);
         let waiting = unless_waiting(after, settled);
-        let placed = unless_unplaced(before, kind, value, waiting);
+        let placed = unless_lacking(before, kind, value, waiting);
         let free = unless_ruled(before, kind, placed);
         unless_of_another_class(kind, value, free)
     }
@@ -137,7 +135,7 @@ fn unless_waiting(after: Blind, otherwise: Reason) -> Reason
     }
 }
 
-fn unless_unplaced(before: Blind, kind: u8, value: u8, otherwise: Reason) -> Reason
+fn unless_lacking(before: Blind, kind: u8, value: u8, otherwise: Reason) -> Reason
     ensures { λ r. ⌜ r ≡ cond (eqb kind kinds.sapbp && isDropped (aimed value before)) Reason.NoPosition otherwise ⌝ }
 {
     if kind != SAPBP {

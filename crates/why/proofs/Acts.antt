@@ -10,7 +10,7 @@ use Rattle.telegrams.specs.Locality.{heardBy}
 use Rattle.reasons.specs.declared.Reason.{Reason}
 use Rattle.reasons.specs.declared.Judged.{Judged}
 use Rattle.reasons.specs.Reasons.{reasonOf}
-use Rattle.reasons.specs.Cases.{Acted, Delayed}
+use Rattle.reasons.specs.Cases.{Acted, WaitsAfter}
 use Rattle.reasons.proofs.Acts as ofLink
 use Rattle.why.specs.Why.{explained}
 use Rattle.why.specs.Cases.{Judges, Acts, Waits, isDelivered}
@@ -37,9 +37,9 @@ module _ (tag address value : ℕ) (m : Model) (tagged : Tagged m) where
 
   pub waiting-exactly : (rest : ℕ) → (explained tag address value m ≡ Reason.Waiting rest) ↔ Waits rest tag address value m
   waiting-exactly rest = (
-    λ e. let w = judges-when tag address value m tagged isDelivered refl refl refl refl (ap isDelivered e) in record { judged = _; speaks = w; waits = reads (Reason.Waiting rest) (Delayed rest value) here w e },
-    λ a. holds (Reason.Waiting rest) (Delayed rest value) here (a .speaks) (a .waits),
+    λ e. let w = judges-when tag address value m tagged isDelivered refl refl refl refl (ap isDelivered e) in record { judged = _; speaks = w; waits = reads (Reason.Waiting rest) (WaitsAfter rest value) here w e },
+    λ a. holds (Reason.Waiting rest) (WaitsAfter rest value) here (a .speaks) (a .waits),
   )
     where
-      here : (kind : ℕ) (b : Blind) → (reasonOf value (ofLink.it value kind b) ≡ Reason.Waiting rest) ↔ Delayed rest value (ofLink.it value kind b)
-      here kind b = ofLink.delayed-exactly value kind b rest
+      here : (kind : ℕ) (b : Blind) → (reasonOf value (ofLink.it value kind b) ≡ Reason.Waiting rest) ↔ WaitsAfter rest value (ofLink.it value kind b)
+      here kind b = ofLink.waits-exactly value kind b rest

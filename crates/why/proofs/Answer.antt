@@ -1,4 +1,4 @@
--- What is answered, test by test: each is met only where none before it is passed. Assumes nothing.
+-- What is answered, test by test: each is asked only where none before it holds. Assumes nothing.
 use Prim.Native.Nat.{ℕ}
 use mathlib.Core.Path.{_≡_, ap, _∙_}
 use mathlib.Core.Bool.{Bool, true, false, not}

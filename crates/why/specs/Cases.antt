@@ -17,7 +17,7 @@ use Rattle.telegrams.specs.Locality.{reached, heardBy}
 use Rattle.reasons.specs.declared.Reason.{Reason}
 use Rattle.reasons.specs.declared.Judged.{Judged}
 use Rattle.reasons.specs.Reasons.{judged}
-use Rattle.reasons.specs.Cases.{linkCases, Acted, Delayed}
+use Rattle.reasons.specs.Cases.{linkCases, Acted, WaitsAfter}
 use Rattle.why.specs.Why.{judgedIn}
 
 -- "A panel, a tag and one telegram", each number in its range.
@@ -54,7 +54,7 @@ pub record Acts (tag address value : ℕ) (m : Model) : Type 0 where
 pub record Waits (rest tag address value : ℕ) (m : Model) : Type 0 where
   pub judged : Judged
   pub speaks : Judges tag address value m judged
-  pub waits : Delayed rest value judged
+  pub waits : WaitsAfter rest value judged
 
 -- What the telegram does when it is sent: it is accepted, and the blind is then the one that was judged.
 pub record Sent (tag address value : ℕ) (m : Model) (r : Result Model Cells) : Type 0 where

@@ -1,5 +1,5 @@
-// Document 02, K1, "Why didn't it move?": what a telegram would do to one blind, and if nothing, why. Nothing is sent, and
-// nothing changes.
+// Document 02, K1, "Why didn't it move?": what the last link of a telegram would do to one blind, or why it would do
+// nothing. Nothing is sent, and nothing changes.
 use blind::Blind;
 use link::Link;
 use link::words::ADDRESS_STEP;

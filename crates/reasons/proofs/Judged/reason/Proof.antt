@@ -11,7 +11,7 @@ returns c =
     let ruled = c .before in
     let placed = ruled .before in
     let waiting = placed .before in
-    in-order _ _ (waiting .before .settled .ensures) (waiting .unless-waiting .ensures) (placed .unless-unplaced .ensures) (ruled .unless-ruled .ensures)
+    in-order _ _ (waiting .before .settled .ensures) (waiting .unless-waiting .ensures) (placed .unless-lacking .ensures) (ruled .unless-ruled .ensures)
     (c .unless-of-another-class .ensures)
 
 pub reason-spec : {M : Type 1} → statement M

@@ -1,11 +1,11 @@
 use borrow.Author.Needs.{needs}
 use borrow.Author.Tests.{eq-eqb, ne-eqb}
 use Rattle.kinds.specs.Kinds.{sapbp}
-use Rattle.reasons.proofs.unless_unplaced.Statement.{statement}
-use Rattle.reasons.proofs.unless_unplaced.Tie as tie
+use Rattle.reasons.proofs.unless_lacking.Statement.{statement}
+use Rattle.reasons.proofs.unless_lacking.Tie as tie
 
-pub unless-unplaced-spec : {M : Type 1} → statement M
-unless-unplaced-spec =
+pub unless-lacking-spec : {M : Type 1} → statement M
+unless-lacking-spec =
     tie.close
     (tie.spec
     (λ c. rw (ne-eqb _ sapbp (c .if1 .taken)))
