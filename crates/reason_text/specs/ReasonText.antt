@@ -3,7 +3,7 @@
 use Prim.Native.Nat.{ℕ}
 use mathlib.Core.List.{List, [], _∷_}
 use Rattle.reasons.specs.declared.Reason.{Reason}
-use Rattle.reasons.specs.Reasons.{numberOf}
+use Rattle.reasons.specs.Reasons.{numberOf, millisecondsIn}
 use Rattle.texts.specs.Text.{text}
 use Rattle.texts.specs.Sheet.{joined}
 use Rattle.decimals.specs.Decimals.{decimal}
@@ -19,6 +19,6 @@ reasonText Reason.UnderRain = text "0 under-rain"
 reasonText Reason.UnderFrost = text "0 under-frost"
 reasonText Reason.UnderForced = text "0 under-forced"
 reasonText Reason.NoPosition = text "0 no-position"
-reasonText (Reason.Waiting rest) = joined (text "0 waiting " ∷ decimal rest ∷ [])
+reasonText (Reason.Waiting rest) = joined (text "0 waiting " ∷ decimal (millisecondsIn (Reason.Waiting rest)) ∷ [])
 reasonText Reason.Acts = text "0 acts"
 reasonText Reason.AlreadySo = text "0 already-so"

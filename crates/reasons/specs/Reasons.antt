@@ -37,6 +37,22 @@ numberOf (Reason.Waiting rest) = 0
 numberOf Reason.Acts = 0
 numberOf Reason.AlreadySo = 0
 
+-- "With the milliseconds left": the one value that a reason has. The others have none, and 0 says so.
+abbrev pub millisecondsIn : Reason → ℕ
+millisecondsIn Reason.NotSound = 0
+millisecondsIn Reason.OutOfRange = 0
+millisecondsIn Reason.NoBlind = 0
+millisecondsIn Reason.NotLinked = 0
+millisecondsIn Reason.WrongClass = 0
+millisecondsIn Reason.UnderWind = 0
+millisecondsIn Reason.UnderRain = 0
+millisecondsIn Reason.UnderFrost = 0
+millisecondsIn Reason.UnderForced = 0
+millisecondsIn Reason.NoPosition = 0
+millisecondsIn (Reason.Waiting rest) = rest
+millisecondsIn Reason.Acts = 0
+millisecondsIn Reason.AlreadySo = 0
+
 -- ---- a link that is judged
 
 -- No link has spoken.
