@@ -77,7 +77,7 @@ rulerNumber Ruler.Forced = 4
 unfoldable pub isUnder : Ruler → Judged → Bool
 isUnder ruler j = leb mud (j .kind) && eqb (rulerNumber ruler) (rulerNumber (rulerOf (j .before)))
 
--- For the code, which asks once who rules: the reason that a ruler is, and another where nobody rules.
+-- The reason that a ruler is, and another where nobody rules.
 abbrev pub under : Ruler → Reason → Reason
 under Ruler.Nobody otherwise = otherwise
 under Ruler.Wind otherwise = Reason.UnderWind

@@ -55,7 +55,7 @@ whyTests tag address value m =
 unfoldable pub explained : ℕ → ℕ → ℕ → Model → Reason
 explained tag address value m = first Reason.AlreadySo (whyTests tag address value m)
 
--- For the search: where some links stand in a table, together.
+-- Where some links stand in a table, together: from the start on, before the end.
 pub record Spans (wanted links : List Link) (start end : ℕ) : Type 0 where
   pub up : start ≤ end
   pub within : end ≤ length links
