@@ -1,4 +1,4 @@
-// Document 01, "Numbers the panel answers": a name for each number of the table.
+// Document 01, "Numbers the panel answers": a name for each number of the table, and for those that document 02 adds.
 // Whoever answers a number says it by one of these names.
 
 pub const DONE: u8 = 0;
@@ -26,3 +26,5 @@ pub const TERMINAL_IN_USE: u8 = 10;
 pub const WRONG_CELLS: u8 = 11;
 
 pub const NOT_SOUND: u8 = 12;
+
+pub const SHORT_BUFFER: u8 = 13;

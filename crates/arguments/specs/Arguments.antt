@@ -1,5 +1,6 @@
 -- The command language, its arguments, as they are collected word by word: their number up to one more than are kept,
--- whether all are numbers, and the values that are kept. proofs/Collected says the same of the words all at once.
+-- whether all are numbers, and the values that are kept. proofs/Collected says the same of the words all at once. How a word is
+-- read is left open, so the fields of another text are collected in the same way.
 -- Assumes nothing.
 use Prim.Native.Nat.{ℕ, _+_, min}
 use mathlib.Core.Bool.{true, false}
@@ -26,10 +27,14 @@ unfoldable pub with : Arguments → Number → Arguments
 with a Number.Nothing = record { count = oneMore (a .count); numeric = false; values = a .values }
 with a (Number.Of value) = record { count = oneMore (a .count); numeric = a .numeric; values = set (a .values) (a .count) value }
 
--- All words of a list one after the other.
-unfoldable pub heard : Arguments → List (List ℕ) → Arguments
-heard a [] = a
-heard a (word ∷ words) = heard (with a (numberOf word)) words
+-- All words of a list one after the other, each read in one way.
+unfoldable pub heardBy : (List ℕ → Number) → Arguments → List (List ℕ) → Arguments
+heardBy read a [] = a
+heardBy read a (word ∷ words) = heardBy read (with a (read word)) words
+
+-- All words of a list as numbers of the command language.
+abbrev pub heard : Arguments → List (List ℕ) → Arguments
+heard = heardBy numberOf
 
 -- The value at a place.
 abbrev pub valueAt : Arguments → ℕ → ℕ

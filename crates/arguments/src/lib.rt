@@ -21,7 +21,7 @@ pub struct Arguments {
 }
 
 impl Arguments {
-    fn nothing() -> Arguments
+    pub fn nothing() -> Arguments
         ensures { λ r. ⌜ r ≡ nothing ⌝ }
     {
         Arguments {
@@ -47,7 +47,7 @@ impl Arguments {
     }
 
     // One word more.
-    fn with(self, word: Number) -> Arguments
+    pub fn with(self, word: Number) -> Arguments
         ensures { λ r. ⌜ r ≡ with self word ⌝ }
     {
         match word {

@@ -8,7 +8,7 @@ use mathlib.Core.List.{List, map}
 use lib.ListN.{length, getD}
 use Rattle.laws.specs.Every.{every}
 use Rattle.params.specs.Numbers.{setSize}
-use Rattle.decimals.specs.Decimals.{isNumber, valueOf}
+use Rattle.decimals.specs.Decimals.{isNumber, valueOf, numberOf}
 use Rattle.names.specs.declared.Entry.{Entry}
 use Rattle.names.specs.Names.{takes}
 use Rattle.arguments.specs.Arguments.{most, nothing, heard, valueAt}
@@ -44,8 +44,8 @@ judged-alike entry count numeric f g fits same =
 pub collected : (entry : Entry) (words : List (List ℕ)) → entry .plain + setSize ≤ most
     → judged entry (heard nothing words .count) (heard nothing words .numeric) (valueAt (heard nothing words))
     ≡ judged entry (length words) (every isNumber words) (λ place. getD (map valueOf words) place 0)
-unfolding nothing
+unfolding nothing numberOf
 collected entry words fits =
     ap₂ (λ (count : ℕ) (numeric : Bool). judged entry count numeric (valueAt (heard nothing words)))
-    (counted nothing words (omega arith) ∙ ap (λ (k : ℕ). min k (most + 1)) (omega arith)) (all-numbers nothing words)
-    ∙ judged-alike entry (length words) (every isNumber words) (valueAt (heard nothing words)) _ fits (by-place words)
+    (counted numberOf nothing words (omega arith) ∙ ap (λ (k : ℕ). min k (most + 1)) (omega arith)) (all-numbers isNumber nothing words)
+    ∙ judged-alike entry (length words) (every isNumber words) (valueAt (heard nothing words)) _ fits (by-place isNumber words)

@@ -3,7 +3,7 @@
 use Prim.Native.Nat.{ℕ, zero, suc, _+_, _-_, _*_, _/_, _%_}
 use mathlib.Core.Bool.{Bool, true, false, cond, not, _&&_}
 use mathlib.Core.List.{List, [], _∷_, _++_}
-use lib.Dec.{ltb, leb}
+use lib.Dec.{eqb, ltb, leb}
 use Rattle.laws.specs.Every.{every}
 use Rattle.decimals.specs.declared.Number.{Number}
 
@@ -48,6 +48,24 @@ numberAfter value bytes =
 unfoldable pub isNumber : List ℕ → Bool
 isNumber word = not (isEmpty word) && (every isDigit word && leb (valueOf word) largest)
 
+-- What a word says, read as a number, if it passes a test.
+abbrev pub numberIf : (List ℕ → Bool) → List ℕ → Number
+numberIf passes word = cond (passes word) (Number.Of (valueOf word)) Number.Nothing
+
 -- What a word says, read as a number.
 unfoldable pub numberOf : List ℕ → Number
-numberOf word = cond (isNumber word) (Number.Of (valueOf word)) Number.Nothing
+numberOf = numberIf isNumber
+
+-- A 0 with more after it.
+abbrev pub hasLeadingZero : List ℕ → Bool
+hasLeadingZero [] = false
+hasLeadingZero (byte ∷ []) = false
+hasLeadingZero (byte ∷ next ∷ bytes) = eqb byte (sign 0)
+
+-- Document 02, K3: "decimal without leading zeros".
+unfoldable pub isPlain : List ℕ → Bool
+isPlain word = isNumber word && not (hasLeadingZero word)
+
+-- What a word says, read as such a number.
+unfoldable pub plainOf : List ℕ → Number
+plainOf = numberIf isPlain

@@ -5,7 +5,7 @@ ghost use Prim.Native.Nat.{_%_};
 ghost use mathlib.Core.Path.{_≡_};
 ghost use mathlib.Core.List.{[], _∷_};
 ghost use Rattle.texts.specs.Sheet.{sheet, puts};
-ghost use Rattle.decimals.specs.Decimals.{sign, decimal, numberAfter, numberOf};
+ghost use Rattle.decimals.specs.Decimals.{sign, decimal, numberAfter, numberOf, plainOf};
 
 const BASE: u64 = 10;
 
@@ -52,6 +52,19 @@ pub fn read_number(word: &[u8]) -> Number
         value = next;
     }
     Number::Of(value)
+}
+
+// What a word says, read as a number without leading zeros.
+pub fn read_plain(word: &[u8]) -> Number
+    ensures { λ r. ⌜ r ≡ plainOf (now (word .entry)) ⌝ }
+{
+    if word.len() < 2 {
+        return read_number(word);
+    }
+    if word[0] == ZERO {
+        return Number::Nothing;
+    }
+    read_number(word)
 }
 
 // The number with one byte more after it, if that is a digit and the value still fits: tested before it could wrap.

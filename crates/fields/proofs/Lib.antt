@@ -1,0 +1,4 @@
+pub mod Parts
+pub mod FieldByField
+pub mod Lines
+pub mod FieldsText

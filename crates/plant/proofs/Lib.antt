@@ -1,0 +1,13 @@
+pub mod Walk
+pub mod Rows
+pub mod Rewired
+pub mod WrittenLines
+pub mod Taken
+pub mod Readings
+pub mod LinesTaken
+pub mod BlindsBack
+pub mod LinksBack
+pub mod WrittenBack
+pub mod WrittenNumbers
+pub mod Length
+pub mod RoundTrips

@@ -1,0 +1,2 @@
+pub mod LinesText
+pub mod Filled
