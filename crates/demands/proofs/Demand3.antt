@@ -12,7 +12,7 @@ use Rattle.panel.specs.Calls.{Cells}
 use Rattle.seats.specs.Untouched.{blindAt}
 use Rattle.demands.specs.Calls.{Call, telegram, timeStep, strip, install, removeBlind, writeParams, addLink, removeLink, spliceIn, spliceOut, inventory, does}
 use Rattle.demands.specs.Runs.{gives, after, reportIn, reportOf, reportsOf}
-use Rattle.demands.specs.Demand3.{Spares, OfTheRun, told, passed, Step, own, inserted, whole, without, SameRun}
+use Rattle.demands.specs.Demand3.{Spares, OfTheRun, told, passed, Step, own, inserted, reread, whole, without, SameRun}
 use Rattle.demands.proofs.MotorSeen.{motor-seen}
 use Rattle.demands.proofs.Alike.{Alike, insert-alike}
 use Rattle.demands.proofs.SameSteps.{Stepped, tell-stepped, pass-stepped}
@@ -67,6 +67,7 @@ together {tag} (inserted turn spares ∷ steps) blind a b k =
       reports = ap (λ (x : List ℕ). x ++ reportsOf tag (whole steps) (gives turn b .leaves)) (silent tag (turn .call) b (turn .cells) spares)
           ∙ rest .reports;
     }
+together {tag} (reread file spares ∷ steps) blind a b k = absurd spares
 
 -- Demand 3. Any run is one of its own beginnings, so what is said of the end of a run holds at every point of it.
 pub same-run : (tag : ℕ) (blind : Blind) (m : Model) → Fine m → blindAt tag m ≡ some blind → (steps : List (Step tag)) → SameRun tag steps m

@@ -1,23 +1,17 @@
 -- How long a plant file is: the first line has 8 bytes, a blind's at most 38, a link's at most 16, and so the whole file fits into
 -- the least buffer that is lent.
 -- Assumes nothing.
-use Prim.Native.Nat.{ℕ, zero, suc, _+_, _*_, _≤_, _<_}
+use Prim.Native.Nat.{ℕ, zero, suc, _+_, _*_, _≤_}
 use native.Mathlib.Omega.{arith}
-use mathlib.Core.Path.{_≡_, refl, sym, ap, _∙_}
-use mathlib.Core.Bool.{true}
+use mathlib.Core.Path.{_≡_, refl, ap, _∙_}
 use mathlib.Core.List.{List, [], _∷_, _++_, map}
 use mathlib.Core.Option.{Option, none, some}
 use lib.ListN.{length, length-append}
-use Rattle.laws.proofs.Each.{Each, first, rest, each-of}
+use Rattle.laws.proofs.Each.{Each, first, rest}
 use Rattle.laws.specs.Fills.{tabulate}
-use Rattle.params.specs.declared.Params.{Params}
-use Rattle.params.specs.declared.Reaction.{Reaction}
-use Rattle.params.specs.Parameters.{SoundParams}
 use Rattle.params.specs.Numbers.{numberOf, numbersOf}
 use Rattle.tags.specs.Tags.{places}
 use Rattle.link.specs.declared.Link.{Link}
-use Rattle.link.specs.Link.{inRange, nothing}
-use Rattle.link.proofs.Ranges.{range-reads}
 use Rattle.panel.specs.Panel.{Seat, Model}
 use Rattle.panel.specs.Sound.{Sound, Fine}
 use Rattle.texts.specs.Text.{text}
@@ -25,6 +19,7 @@ use Rattle.texts.specs.Sheet.{joined}
 use Rattle.fields.specs.Lines.{Line, fieldsText, lineText}
 use Rattle.fields.proofs.FieldsText.{lines-append, field-length, line-length}
 use Rattle.plant.specs.Written.{firstLine, blindLine, linkLine, seatLines, blindLines, linkLines, plantLines, plantText, room}
+use Rattle.plant.proofs.WrittenNumbers.{ShortBlind, ShortLink, blind-short, links-short}
 
 -- the bytes of lines
 abbrev bytes : List Line → ℕ
@@ -47,33 +42,26 @@ no-fields = omega arith
 
 -- ---- blinds
 
-reaction-low : (r : Reaction) → numberOf r < 10
-reaction-low Reaction.Ignore = omega arith
-reaction-low Reaction.Up = omega arith
-reaction-low Reaction.Down = omega arith
-reaction-low Reaction.Stop = omega arith
-
-set-length : (p : Params) → SoundParams p → length (fieldsText (numbersOf p)) ≤ 25
-unfolding numbersOf
-set-length p s =
-    field-length 5 (p .mudt) _ (omega (arith, s .mudt-most))
-    (field-length 4 (p .sst) _ (omega (arith, s .sst-most))
-    (field-length 4 (p .rpt) _ (omega (arith, s .rpt-most))
-    (field-length 0 (numberOf (p .rwa)) _ (reaction-low (p .rwa))
-    (field-length 0 (numberOf (p .rra)) _ (reaction-low (p .rra))
-    (field-length 0 (numberOf (p .rfa)) [] (reaction-low (p .rfa)) no-fields)))))
-
-blind-length : (tag : ℕ) (seat : Seat) → tag < places → seat .terminal ≤ 127 → SoundParams (seat .blind .params) → length (lineText (blindLine tag seat)) ≤ 38
-unfolding blindLine text tabulate
-blind-length tag seat low terminal s =
-    let fields = field-length 1 tag _ (omega (arith, low)) (field-length 2 (seat .terminal) _ (omega (arith, terminal)) (set-length (seat .blind .params) s)) in
+blind-length : (tag : ℕ) (seat : Seat) → ShortBlind tag seat → length (lineText (blindLine tag seat)) ≤ 38
+unfolding blindLine numbersOf text tabulate
+blind-length tag seat b =
+    let fields =
+    field-length 1 tag _ (b .tag-short)
+    (field-length 2 (seat .terminal) _ (b .terminal-short)
+    (field-length 5 (seat .blind .params .mudt) _ (b .mudt-short)
+    (field-length 4 (seat .blind .params .sst) _ (b .sst-short)
+    (field-length 4 (seat .blind .params .rpt) _ (b .rpt-short)
+    (field-length 0 (numberOf (seat .blind .params .rwa)) _ (b .rwa-short)
+    (field-length 0 (numberOf (seat .blind .params .rra)) _ (b .rra-short)
+    (field-length 0 (numberOf (seat .blind .params .rfa)) [] (b .rfa-short) no-fields)))))))
+    in
     omega (arith, fields, line-length (text "blind") (tag ∷ seat .terminal ∷ numbersOf (seat .blind .params)))
 
 module _ (m : Model) (s : Sound m) where
   seat-bytes : (tag : ℕ) (seat : Option Seat) → m .seats tag ≡ seat → bytes (seatLines tag seat) ≤ 38
   seat-bytes tag none e = omega (arith, no-bytes)
   seat-bytes tag (some seat) e =
-      omega (arith, one-more (blindLine tag seat) [], no-bytes, blind-length tag seat (s .tags tag seat e) (s .in-range tag seat e) (s .blinds tag seat e .params))
+      omega (arith, one-more (blindLine tag seat) [], no-bytes, blind-length tag seat (blind-short m s tag seat e))
 
   blinds-length : (n : ℕ) → bytes (blindLines n m) ≤ 38 * n
   unfolding blindLines
@@ -83,14 +71,13 @@ module _ (m : Model) (s : Sound m) where
 
 -- ---- links
 
-link-length : (l : Link) → inRange l ≡ true → length (lineText (linkLine l)) ≤ 16
+link-length : (l : Link) → ShortLink l → length (lineText (linkLine l)) ≤ 16
 unfolding linkLine text tabulate
-link-length l e =
-    let r = range-reads l e in
-    let fields = field-length 4 (l .address) _ (omega (arith, r)) (field-length 1 (l .tag) _ (omega (arith, r)) (field-length 0 (l .kind) [] (omega (arith, r)) no-fields)) in
+link-length l b =
+    let fields = field-length 4 (l .address) _ (b .address-short) (field-length 1 (l .tag) _ (b .tag-short) (field-length 0 (l .kind) [] (b .kind-short) no-fields)) in
     omega (arith, fields, line-length (text "link") (l .address ∷ l .tag ∷ l .kind ∷ []))
 
-links-length : (ls : List Link) → Each (λ l. inRange l ≡ true) ls → bytes (map linkLine ls) ≤ 16 * length ls
+links-length : (ls : List Link) → Each ShortLink ls → bytes (map linkLine ls) ≤ 16 * length ls
 links-length [] all = omega (arith, no-bytes)
 links-length (l ∷ ls) all = omega (arith, one-more (linkLine l) (map linkLine ls), link-length l (first all), links-length ls (rest all))
 
@@ -104,7 +91,7 @@ pub plant-length : (m : Model) → Fine m → length (plantText m) ≤ room
 unfolding plantText plantLines
 plant-length m f =
     let ls = m .table .links in
-    let links = links-length ls (each-of ls nothing (f .sound .links .in-range)) in
+    let links = links-length ls (links-short m (f .sound)) in
     let blinds = blinds-length m (f .sound) places in
     omega (
       arith,

@@ -11,3 +11,4 @@ pub mod WrittenBack
 pub mod WrittenNumbers
 pub mod Length
 pub mod RoundTrips
+pub mod Exact

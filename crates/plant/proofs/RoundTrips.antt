@@ -1,10 +1,11 @@
 -- Document 02, K3: "What the writer writes reads back as the same wiring with fresh blinds, and every file that reads is what the
 -- writer would write." Assumes nothing.
-use Prim.Native.Nat.{ℕ, suc}
-use mathlib.Core.Path.{_≡_, refl, sym, ap, ap₂, _∙_}
+use Prim.Native.Nat.{ℕ, suc, _≤_}
+use mathlib.Core.Path.{_≡_, refl, sym, ap, ap₂, subst, _∙_}
 use mathlib.Core.Bool.{Bool, true, cond}
 use mathlib.Core.List.{List, [], _∷_, _++_, map, cons-ne-nil, append-ne-nil-of-right-ne-nil, head-eq-of-cons-eq, tail-eq-of-cons-eq}
 use mathlib.Core.Option.{Option, none, some, Option·some-injective, Option·none-ne-some}
+use lib.ListN.{length}
 use Rattle.laws.proofs.Each.{Each, none as no-more, more, first, rest, each-map}
 use Rattle.panel.specs.Panel.{Model}
 use Rattle.panel.specs.Sound.{Fine}
@@ -13,13 +14,14 @@ use Rattle.fields.specs.Parts.{parts, between}
 use Rattle.fields.specs.Lines.{Line, lineFeed, lineBytes, lineText, lineOf}
 use Rattle.fields.proofs.Parts.{Clean, parts-back, parts-ended, ended-parts}
 use Rattle.fields.proofs.Lines.{line-sound, line-complete, line-clean}
-use Rattle.plant.specs.Written.{plantLines, plantText}
+use Rattle.plant.specs.Written.{plantLines, plantText, room}
 use Rattle.plant.specs.Read.{Plan, start, isBegun, ifThere, taken, bytesTaken, goodFile, badIn, walked, fileRead}
 use Rattle.plant.specs.Claims.{rewired}
 use Rattle.plant.proofs.Walk.{AllGood, walk-on}
 use Rattle.plant.proofs.LinesTaken.{linesTaken, planOf}
-use Rattle.plant.proofs.Readings.{Told, all-good, panel-is, file-told}
+use Rattle.plant.proofs.Readings.{Told, all-good, panel-is, file-told, read-fine}
 use Rattle.plant.proofs.WrittenBack.{written-taken}
+use Rattle.plant.proofs.Length.{plant-length}
 use Rattle.plant.proofs.WrittenNumbers.{PlainLine, plain-lines}
 
 -- a row with a line feed after it
@@ -96,3 +98,8 @@ reads-as-written file good =
     ∙ ap joined (sym (texts-ended (t .said)))
     ∙ ap (λ (ls : List Line). joined (map lineText ls)) (sym said)
     ∙ ap plantText (sym (panel-is file good))
+
+-- so no file that reads is longer than the least buffer that is lent
+pub reads-short : (file : List ℕ) → fileRead file .line ≡ 0 → length file ≤ room
+reads-short file good =
+    subst (λ (bytes : List ℕ). length bytes ≤ room) (sym (reads-as-written file good)) (plant-length (fileRead file .panel) (read-fine file))

@@ -1,18 +1,26 @@
 -- Document 02, K3: what is claimed of plant files, to be read. The proofs are in proofs/.
 -- Assumes nothing.
-use Prim.Native.Nat.{ℕ, suc}
+use Prim.Native.Nat.{ℕ, suc, _<_}
 use mathlib.Core.Path.{_≡_}
 use mathlib.Core.Bool.{false, cond}
 use mathlib.Core.List.{List, [], _∷_, _++_}
 use mathlib.Core.Option.{Option, none, some}
-use lib.ListN.{take, drop}
+use lib.ListN.{length, take, drop}
+use Rattle.answers.specs.Cases.{Case, case}
 use Rattle.link.specs.declared.Link.{Link}
 use Rattle.panel.specs.Panel.{Model, eachSeat}
+use Rattle.panel.specs.Sound.{Sound}
+use Rattle.panel.specs.Calls.{Cells}
 use Rattle.installs.specs.Installs.{freshSeat}
 use Rattle.texts.specs.Text.{text, same}
 use Rattle.fields.specs.Parts.{parts}
 use Rattle.fields.specs.Lines.{Line, lineFeed, lineOf}
+use Rattle.plant.specs.Written.{room}
 use Rattle.plant.specs.Read.{Plan, start, isBegun, ifThere, bytesTaken, linkIn}
+
+-- The numbers that the writer can answer, and for each of them its case. A case is met only if none above it is.
+abbrev pub fileCases : Model → Cells → List (Case ℕ)
+fileCases m buffer = case 13 (length (buffer .lent) < room) ∷ case 12 (Sound m → ⊥) ∷ []
 
 -- "The same wiring with fresh blinds": tags, terminals, parameters and links are the same.
 unfoldable pub rewired : Model → Model

@@ -1,2 +1,3 @@
 pub mod LinesText
 pub mod Filled
+pub mod Outcomes
