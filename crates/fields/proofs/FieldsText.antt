@@ -9,7 +9,7 @@ use lib.ListN.{length, getD, drop, drop-of-length-le, length-append}
 use lib.Seq.{drop-cons}
 use Rattle.laws.proofs.Maps.{map-both}
 use Rattle.texts.specs.Sheet.{Sheet, put, puts, joined}
-use Rattle.texts.proofs.Sheet.{puts-append}
+use Rattle.texts.proofs.Sheet.{puts-append, joined-append}
 use Rattle.decimals.specs.Decimals.{decimal}
 use Rattle.decimals.proofs.Plain.{decimal-length}
 use Rattle.fields.specs.Parts.{between}
@@ -51,11 +51,6 @@ fields-append (m ∷ ms) ns =
     ap (λ (l : List ℕ). (tab ∷ decimal m) ++ l) (fields-append ms ns) ∙ sym (append-assoc (tab ∷ decimal m) (fieldsText ms) (fieldsText ns))
 
 -- ---- lines one after the other
-
-joined-append : (xs ys : List (List ℕ)) → joined (xs ++ ys) ≡ joined xs ++ joined ys
-unfolding joined
-joined-append [] ys = refl
-joined-append (x ∷ xs) ys = ap (λ (l : List ℕ). x ++ l) (joined-append xs ys) ∙ sym (append-assoc x (joined xs) (joined ys))
 
 pub lines-append : (xs ys : List Line) → joined (map lineText (xs ++ ys)) ≡ joined (map lineText xs) ++ joined (map lineText ys)
 lines-append xs ys = ap joined (map-both lineText xs ys) ∙ joined-append (map lineText xs) (map lineText ys)

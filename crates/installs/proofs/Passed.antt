@@ -4,17 +4,17 @@ use mathlib.Core.Path.{_≡_, ap, _∙_}
 use mathlib.Core.Bool.{Bool, true, false, not, _||_, or-assoc}
 use mathlib.Core.List.{List, [], _∷_}
 use lib.Dec.{leb}
-use borrow.Author.Tests.{leb-false, not-false}
+use borrow.Author.Tests.{leb-false, lt-leb, not-false}
 use Rattle.laws.proofs.Any.{neither-left, neither-right}
 use Rattle.answers.specs.Answers.{refusal}
-use Rattle.answers.proofs.Refusals.{all-passed}
+use Rattle.answers.proofs.Refusals.{passed-by, all-passed, none-left}
 use Rattle.params.specs.Numbers.{allowed}
 use Rattle.tags.specs.Tags.{places}
 use Rattle.panel.specs.Panel.{Model, presentIn}
 use Rattle.terminals.specs.Strip.{terminals}
 use Rattle.panel.specs.Sound.{isSound}
 use Rattle.panel.specs.Calls.{Cells}
-use Rattle.panel.proofs.Checks.{Passed, passed}
+use Rattle.panel.proofs.Checks.{own-checks, Passed, passed}
 use Rattle.seats.specs.Seats.{inUse}
 use Rattle.installs.specs.Installs.{installRule}
 
@@ -57,3 +57,15 @@ module _ (tag terminal : ℕ) (a : List ℕ) where
         let x = all-passed (presentIn m tag) 3 ((inUse terminal (terminal + 1) m, 10) ∷ []) (all .own-passed) in
         let y = all-passed (inUse terminal (terminal + 1) m) 9 [] (x .1) in
         record { sound = all .sound; within = inside (all .within); new = x .0; free = y .0 }
+
+    -- and so it is accepted
+    pub install-accepted : Installable → refusal (installRule tag terminal a .checks m cells) ≡ 0
+    unfolding installRule
+    install-accepted ok =
+        own-checks m beyond _ (ok .sound)
+        (none-of-three (leb places tag) (leb terminals terminal) (not (allowed a)) (lt-leb places tag (ok .within .tag-low))
+        (lt-leb terminals terminal (ok .within .terminal-low)) (ap not (ok .within .fair)))
+        ∙ passed-by (presentIn m tag) 4 _ (ok .new) ∙ passed-by (inUse terminal (terminal + 1) m) 10 [] (ok .free) ∙ none-left
+      where
+        none-of-three : (a b c : Bool) → a ≡ false → b ≡ false → c ≡ false → (a || (b || c)) ≡ false
+        none-of-three a b c e f g = rw (e, f, g)

@@ -3,7 +3,7 @@
 use Prim.Native.Nat.{ℕ, zero, suc, _<_}
 use native.Mathlib.Omega.{arith}
 use mathlib.Core.Path.{subst, subst₂}
-use mathlib.Core.List.{List, [], _∷_, _++_, List·Permᴰ, List·Permᴰ·nil, List·Permᴰ·cons, List·Permᴰ·swap, List·Permᴰ·trans}
+use mathlib.Core.List.{List, [], _∷_, _++_, map, List·Permᴰ, List·Permᴰ·nil, List·Permᴰ·cons, List·Permᴰ·swap, List·Permᴰ·trans}
 use lib.ListN.{length, getD}
 
 -- P holds of each element
@@ -31,11 +31,19 @@ module _ {A : Type 0} {P : A → Type 0} where
   each-right [] ys e = e
   each-right (x ∷ xs) ys e = each-right xs ys (rest e)
 
+  pub each-append : {xs ys : List A} → Each P xs → Each P ys → Each P (xs ++ ys)
+  each-append none f = f
+  each-append (more h t) f = more h (each-append t f)
+
   pub each-perm : {xs ys : List A} → List·Permᴰ xs ys → Each P xs → Each P ys
   each-perm List·Permᴰ·nil e = e
   each-perm (List·Permᴰ·cons same perm) e = more (subst P same (first e)) (each-perm perm (rest e))
   each-perm (List·Permᴰ·swap one two) e = more (subst P two (first (rest e))) (more (subst P one (first e)) (rest (rest e)))
   each-perm (List·Permᴰ·trans p q) e = each-perm q (each-perm p e)
+
+pub each-mapped : {A B : Type 0} {P : B → Type 0} (f : A → B) {xs : List A} → Each (λ x. P (f x)) xs → Each P (map f xs)
+each-mapped f none = none
+each-mapped f (more h t) = more h (each-mapped f t)
 
 module _ {A : Type 0} {P Q : A → Type 0} where
   pub each-map : {xs : List A} → ((x : A) → P x → Q x) → Each P xs → Each Q xs

@@ -3,18 +3,17 @@
 use Prim.Native.Nat.{ℕ, zero, suc, _+_, _≤_, _<_}
 use native.Mathlib.Omega.{arith}
 use mathlib.Core.Path.{_≡_, refl, sym, ap, _∙_}
-use mathlib.Core.Bool.{Bool, true, false, cond, not, _&&_, _||_}
-use mathlib.Core.List.{List, []}
+use mathlib.Core.Bool.{Bool, true, false, cond, _&&_}
+use mathlib.Core.List.{[]}
 use mathlib.Core.Option.{Option, none, some, Option·none-ne-some}
 use lib.Dec.{eqb, ltb, leb}
-use borrow.Author.Tests.{eq-eqb, lt-ltb, le-ltb, lt-leb, le-leb}
+use borrow.Author.Tests.{eq-eqb, lt-ltb, le-ltb, le-leb}
 use Rattle.laws.specs.Fills.{tabulate}
 use Rattle.laws.proofs.Choices.{both, is-false, below-or, same-or-other}
 use Rattle.answers.specs.Answers.{refusal}
 use Rattle.answers.specs.Rules.{Result, carried}
-use Rattle.answers.proofs.Refusals.{passed-by, none-left}
 use Rattle.answers.proofs.Rules.{carried-done, answer-is}
-use Rattle.params.specs.Numbers.{numbersOf, paramsOf, allowed}
+use Rattle.params.specs.Numbers.{numbersOf, paramsOf}
 use Rattle.params.proofs.Ranges.{params-decide}
 use Rattle.params.proofs.Rows.{asked-back, asked-allowed}
 use Rattle.blind.specs.declared.Blind.{Blind}
@@ -26,32 +25,17 @@ use Rattle.panel.specs.Calls.{Cells, noCells, CallRule}
 use Rattle.panel.proofs.Seats.{same-model, reseated-at, reseated-other}
 use Rattle.panel.proofs.Decides.{sound-tested}
 use Rattle.panel.proofs.Kept.{bare-sound}
-use Rattle.panel.proofs.Checks.{own-checks}
-use Rattle.terminals.specs.Strip.{terminals}
 use Rattle.seats.specs.Seats.{inUse}
 use Rattle.seats.specs.Cases.{Used}
 use Rattle.seats.proofs.Exact.{used-decides}
 use Rattle.installs.specs.Installs.{freshSeat, installRule}
-use Rattle.installs.proofs.Passed.{beyond, Installable}
+use Rattle.installs.proofs.Passed.{Installable, install-accepted}
 use Rattle.wiring.specs.Afresh.{unlinked}
 use Rattle.texts.specs.Text.{text, same}
 use Rattle.plant.specs.Written.{blindLine, seatLines, blindLines}
 use Rattle.plant.specs.Read.{blindSize, withBlind, further, taken}
 use Rattle.plant.proofs.Rewired.{AllFresh}
 use Rattle.plant.proofs.LinesTaken.{linesTaken, planOf, line-taken, lines-then}
-
--- install is accepted where its checks find nothing
-install-accepted : (tag terminal : ℕ) (a : List ℕ) (m : Model) → Installable tag terminal a m noCells
-    → refusal (installRule tag terminal a .checks m noCells) ≡ 0
-unfolding installRule
-install-accepted tag terminal a m ok =
-    own-checks m (beyond tag terminal a) _ (ok .sound)
-    (none-of-three (leb places tag) (leb terminals terminal) (not (allowed a)) (lt-leb places tag (ok .within .tag-low))
-    (lt-leb terminals terminal (ok .within .terminal-low)) (ap not (ok .within .fair)))
-    ∙ passed-by (presentIn m tag) 4 _ (ok .new) ∙ passed-by (inUse terminal (terminal + 1) m) 10 [] (ok .free) ∙ none-left
-  where
-    none-of-three : (a b c : Bool) → a ≡ false → b ≡ false → c ≡ false → (a || (b || c)) ≡ false
-    none-of-three a b c e f g = rw (e, f, g)
 
 module _ (m : Model) where
   -- the lowest tag that a further line may have after the lines of the tags below one
@@ -183,7 +167,7 @@ module _ (m : Model) (f : Fine m) (fresh : AllFresh m) where
         rule = installRule k (seat .terminal) (numbersOf (seat .blind .params))
 
         none-refuses : refusal (rule .checks (upTo k) noCells) ≡ 0
-        none-refuses = install-accepted k (seat .terminal) (numbersOf (seat .blind .params)) (upTo k) fits
+        none-refuses = install-accepted k (seat .terminal) (numbersOf (seat .blind .params)) (upTo k) noCells fits
 
         leaves : carried rule (upTo k) noCells .leaves ≡ upTo (suc k)
         leaves = ap (λ (r : Result Model Cells). r .leaves) (carried-done rule (upTo k) noCells none-refuses) ∙ leaves-next

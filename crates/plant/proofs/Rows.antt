@@ -1,26 +1,13 @@
--- Rows and lines by what is known of them: rows that are the same byte by byte, short rows of numbers by their length, a line by its
+-- Rows and lines by what is known of them: a choice by its test, short rows of numbers by their length, a line by its
 -- word and its numbers. Assumes nothing.
 use Prim.Native.Nat.{ℕ, suc}
 use native.Mathlib.Omega.{arith}
 use mathlib.Core.Path.{_≡_, refl, sym, ap₂}
-use mathlib.Core.Bool.{Bool, true, false, cond, true≢false}
+use mathlib.Core.Bool.{Bool, true, false, cond}
 use mathlib.Core.List.{List, [], _∷_}
 use mathlib.Core.Option.{Option, none, some, Option·none-ne-some}
 use lib.ListN.{length, getD, drop}
-use lib.Dec.{eqb}
-use borrow.Author.Tests.{eqb-true}
-use Rattle.laws.proofs.Choices.{both-left, both-right}
-use Rattle.texts.specs.Text.{same}
 use Rattle.fields.specs.Lines.{Line, line}
-
--- rows that are the same byte by byte are the same
-pub same-rows : (xs ys : List ℕ) → same xs ys ≡ true → xs ≡ ys
-unfolding same
-same-rows [] [] e = refl
-same-rows [] (y ∷ ys) e = absurd (true≢false (sym e))
-same-rows (x ∷ xs) [] e = absurd (true≢false (sym e))
-same-rows (x ∷ xs) (y ∷ ys) e =
-    ap₂ (λ (b : ℕ) (bs : List ℕ). b ∷ bs) (eqb-true x y (both-left (eqb x y) (same xs ys) e)) (same-rows xs ys (both-right (eqb x y) (same xs ys) e))
 
 -- where something is chosen, its test is passed
 pub chosen : {A : Type 0} (t : Bool) (a : Option A) {b : A} → cond t a none ≡ some b → (t ≡ true) × (a ≡ some b)

@@ -36,12 +36,13 @@ use Rattle.installs.proofs.Soundness.{install-keeps}
 use Rattle.wiring.specs.Wiring.{addRule}
 use Rattle.wiring.proofs.Soundness.{add-keeps}
 use Rattle.texts.specs.Text.{text, same}
+use Rattle.texts.proofs.Text.{same-rows}
 use Rattle.fields.specs.Lines.{Line}
 use Rattle.plant.specs.Written.{newest, firstLine, blindLine, linkLine, plantLines}
 use Rattle.plant.specs.Read.{Plan, isBegun, blindSize, begun, installed, withBlind, linkIn, linked, isAbove, withLink, opened, further, taken}
 use Rattle.plant.specs.Claims.{linkNamed}
 use Rattle.plant.proofs.Rewired.{AllFresh}
-use Rattle.plant.proofs.Rows.{same-rows, chosen, no-elements, two-first, one-number, three-numbers, line-is}
+use Rattle.plant.proofs.Rows.{chosen, no-elements, two-first, one-number, three-numbers, line-is}
 use Rattle.plant.proofs.WrittenLines.{NoneFrom, bare-lines, blind-last, link-last}
 
 -- what is so of every plan that lines make

@@ -3,11 +3,10 @@
 use Prim.Native.Nat.{ℕ, zero, suc, _≤_, _<_}
 use native.Mathlib.Omega.{arith}
 use mathlib.Core.Path.{_≡_, refl}
-use mathlib.Core.List.{List, _++_, map}
 use mathlib.Core.Option.{Option, none, some}
 use Rattle.laws.specs.Every.{every}
 use Rattle.laws.specs.Fills.{tabulate}
-use Rattle.laws.proofs.Each.{Each, none as no-more, more, each-map}
+use Rattle.laws.proofs.Each.{Each, none as no-more, more, each-append, each-mapped, each-map}
 use Rattle.params.specs.Parameters.{SoundParams}
 use Rattle.params.specs.Numbers.{numberOf, numbersOf, InRanges}
 use Rattle.params.proofs.Ranges.{params-decide, ranges-decide}
@@ -78,14 +77,6 @@ pub record PlainLine (l : Line) : Type 0 where
   pub no-tab : Clean tab (l .word)
   pub no-line-feed : Clean lineFeed (l .word)
   pub numbers : Each (λ n. n ≤ largest) (l .numbers)
-
-each-append : {A : Type 0} {P : A → Type 0} {xs ys : List A} → Each P xs → Each P ys → Each P (xs ++ ys)
-each-append no-more f = f
-each-append (more h t) f = more h (each-append t f)
-
-each-mapped : {A B : Type 0} {P : B → Type 0} (f : A → B) {xs : List A} → Each (λ x. P (f x)) xs → Each P (map f xs)
-each-mapped f no-more = no-more
-each-mapped f (more h t) = more h (each-mapped f t)
 
 module _ (P : Line → Type 0) (m : Model) where
   seat-lines : (tag : ℕ) (o : Option Seat) → ((seat : Seat) → o ≡ some seat → P (blindLine tag seat)) → Each P (seatLines tag o)

@@ -1,7 +1,7 @@
 -- Document 02, K3, the panel that is read from a plant file. "A line is bad if its form, a range or its place in the order is wrong, if
 -- 01 forbids it beside the lines before, or if its line feed is missing; a missing first line is line 1."
 -- Assumes nothing.
-use Prim.Native.Nat.{ℕ, suc, _+_}
+use Prim.Native.Nat.{ℕ, suc}
 use mathlib.Core.Bool.{Bool, cond, _&&_}
 use mathlib.Core.List.{List, [], _∷_}
 use mathlib.Core.Option.{Option, none, some}

@@ -3,13 +3,13 @@
 use Prim.Native.Nat.{ℕ, zero, suc, _+_}
 use mathlib.Core.List.{List, [], _∷_, _++_, map}
 use mathlib.Core.Option.{Option, none, some}
-use lib.ListN.{length, getD, drop}
+use lib.ListN.{length, drop}
 use lib.Dec.{ltb}
 use Rattle.params.specs.Numbers.{setSize, numbersOf}
 use Rattle.tags.specs.Tags.{places}
 use Rattle.link.specs.declared.Link.{Link}
 use Rattle.panel.specs.Panel.{Seat, Model}
-use Rattle.panel.specs.Calls.{Cells, row, unsound, CallRule}
+use Rattle.panel.specs.Calls.{row, unsound, CallRule}
 use Rattle.texts.specs.Text.{text}
 use Rattle.texts.specs.Sheet.{joined}
 use Rattle.fields.specs.Lines.{Line, line, lineText}

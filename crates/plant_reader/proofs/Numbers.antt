@@ -1,8 +1,7 @@
 -- The numbers of a line, from what is kept of them.
 -- Assumes nothing.
-use Prim.Native.Nat.{ℕ, zero, suc, _+_, _<_, _≤_, min}
-use native.Mathlib.Omega.{arith}
-use mathlib.Core.Path.{_≡_, refl, sym, ap, _∙_}
+use Prim.Native.Nat.{ℕ, _+_, _<_}
+use mathlib.Core.Path.{_≡_, sym, ap, _∙_}
 use mathlib.Core.List.{List}
 use lib.ListN.{length, getD, drop}
 use Rattle.laws.specs.Fills.{tabulate}
@@ -10,7 +9,7 @@ use Rattle.laws.proofs.Fills.{tabulate-length, tabulate-at, tabulate-same, tabu
 use Rattle.params.specs.Numbers.{setSize, rowOf}
 use Rattle.params.proofs.Rows.{row-back}
 use Rattle.arguments.specs.declared.Arguments.{Arguments}
-use Rattle.arguments.specs.Arguments.{most, valueAt}
+use Rattle.arguments.specs.Arguments.{valueAt}
 use Rattle.plant_reader.specs.Reader.{numbersIn, setIn}
 
 module _ (a : Arguments) where

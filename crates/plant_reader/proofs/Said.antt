@@ -5,19 +5,19 @@ use native.Mathlib.Omega.{arith}
 use mathlib.Core.Path.{_≡_, refl, sym, ap, ap₂, _∙_}
 use mathlib.Core.Bool.{Bool, true, false, cond, _&&_}
 use mathlib.Core.List.{List}
-use mathlib.Core.Option.{Option, none, some}
+use mathlib.Core.Option.{Option, none}
 use mathlib.Core.Logic.{_⊎_, inl, inr, ⊎-elim}
 use lib.ListN.{length, getD, take}
-use lib.Dec.{eqb, ltb}
+use lib.Dec.{eqb}
 use borrow.Author.Tests.{ne-eqb, lt-ltb, le-ltb}
 use Rattle.laws.proofs.Choices.{below-or}
 use Rattle.params.specs.Numbers.{setSize}
 use Rattle.arguments.specs.declared.Arguments.{Arguments}
 use Rattle.arguments.specs.Arguments.{most, valueAt}
 use Rattle.texts.specs.Text.{text, same}
-use Rattle.fields.specs.Lines.{Line, line, lineOf}
+use Rattle.fields.specs.Lines.{Line, line}
 use Rattle.fields.proofs.Lines.{LineRead, numbersFrom}
-use Rattle.plant.specs.Read.{Plan, isBegun, blindSize, begun, withBlind, withLink, opened, further, ifThere, taken, bytesTaken}
+use Rattle.plant.specs.Read.{Plan, blindSize, begun, withBlind, withLink, opened, further, ifThere, taken, bytesTaken}
 use Rattle.plant_reader.specs.Reader.{numbersIn}
 use Rattle.plant_reader.proofs.Numbers.{numbers-length, numbers-kept}
 

@@ -3,15 +3,14 @@
 use Prim.Native.Nat.{ℕ, suc, _+_, _<_, _≤_}
 use native.Mathlib.Numerals.{add-one}
 use native.Mathlib.Omega.{arith}
-use mathlib.Core.Path.{_≡_, refl, sym, ap, ap₂, _∙_, subst}
+use mathlib.Core.Path.{_≡_, refl, sym, ap, ap₂, _∙_}
 use mathlib.Core.Bool.{Bool, true, false, cond, _&&_, true≢false}
 use mathlib.Core.List.{List, [], _∷_}
-use mathlib.Core.Option.{Option, none, some}
+use mathlib.Core.Option.{none, some}
 use lib.ListN.{length, getD, drop}
-use lib.Dec.{eqb, ltb, leb}
+use lib.Dec.{eqb, leb}
 use borrow.Author.Tests.{eq-eqb, ne-eqb, lt-ltb, le-ltb, le-leb, lt-leb}
 use Rattle.laws.proofs.Choices.{both, same-or-other}
-use Rattle.answers.specs.Answers.{refusal}
 use Rattle.answers.specs.Rules.{Result, carried}
 use Rattle.answers.proofs.Rules.{answer-is, done}
 use Rattle.params.specs.Numbers.{setSize, rowOf, allowed}
@@ -21,7 +20,7 @@ use Rattle.panel.specs.Panel.{Model, modelOf}
 use Rattle.panel.specs.Calls.{Cells, noCells, handed}
 use Rattle.panel.specs.declared.calls.Answered.{Answered}
 use Rattle.installs.specs.Installs.{installRule}
-use Rattle.installs.proofs.Passed.{Installable, installable}
+use Rattle.installs.proofs.Passed.{installable}
 use Rattle.wiring.specs.Wiring.{addRule}
 use Rattle.arguments.specs.declared.Arguments.{Arguments}
 use Rattle.arguments.specs.Arguments.{valueAt}

@@ -5,7 +5,7 @@ use native.Mathlib.Numerals.{add-one}
 use native.Mathlib.Omega.{arith}
 use mathlib.Core.Path.{_≡_, refl, sym, ap, _∙_}
 use mathlib.Core.Bool.{Bool, true, false, cond}
-use mathlib.Core.List.{List, [], _∷_, _++_}
+use mathlib.Core.List.{List, [], _∷_, _++_, append-assoc}
 use lib.ListN.{length, getD, take, drop, set, length-set, drop-of-length-le}
 use lib.Seq.{drop-cons, sets, sets-eq}
 use lib.Dec.{ltb}
@@ -99,6 +99,11 @@ by-pieces (piece ∷ pieces) s = by-pieces pieces (puts piece s) ∙ sym (puts-a
 
 pub put-joined : (pieces : List (List ℕ)) (s : Sheet) {t : Sheet} → t ≡ pieceByPiece pieces s → t ≡ puts (joined pieces) s
 put-joined pieces s e = e ∙ by-pieces pieces s
+
+pub joined-append : (xs ys : List (List ℕ)) → joined (xs ++ ys) ≡ joined xs ++ joined ys
+unfolding joined
+joined-append [] ys = refl
+joined-append (x ∷ xs) ys = ap (λ (l : List ℕ). x ++ l) (joined-append xs ys) ∙ sym (append-assoc x (joined xs) (joined ys))
 
 -- ---- a text that fits stands on the sheet as it is
 

@@ -4,9 +4,9 @@ use Prim.Native.Nat.{ℕ, _+_, _-_, _≤_, _<_}
 use native.Mathlib.Omega.{arith}
 use mathlib.Core.Path.{_≡_, refl, sym, ap, _∙_}
 use mathlib.Core.List.{List}
-use lib.ListN.{length, set}
+use lib.ListN.{set}
 use borrow.Author.Needs.{needs}
-use Rattle.laws.specs.Fills.{tabulate, filled}
+use Rattle.laws.specs.Fills.{filled}
 use Rattle.laws.proofs.Fills.{filled-none, filled-more, filled-all}
 use Rattle.params.specs.Numbers.{setSize, askedOf}
 use Rattle.arguments.specs.declared.Arguments.{Arguments}
