@@ -1,6 +1,7 @@
 // The lines of a plant file on a sheet: the first, then the blinds by tag, then the links in table order.
 use blind::Blind;
 use fields::written::put_fields;
+use fields::written::put_line;
 use link::Link;
 use panel::Panel;
 use plant::NEWEST;
@@ -33,10 +34,8 @@ pub(crate) fn put_lines(out: &mut [u8], panel: Panel) -> usize
 fn put_first(out: &mut [u8]) -> usize
     ensures { λ r. ⌜ sheet (now (out .exit)) r ≡ puts (lineText firstLine) (sheet (now (out .entry)) 0) ⌝ }
 {
-    let word = put_text(out, 0, b"plant");
     let numbers = [NEWEST];
-    let version = put_fields(out, word, &numbers);
-    put_text(out, version, b"\n")
+    put_line(out, 0, b"plant", &numbers)
 }
 
 fn put_blinds(out: &mut [u8], at: usize, panel: Panel) -> usize
@@ -99,8 +98,6 @@ fn put_links(out: &mut [u8], at: usize, table: Table) -> usize
 fn put_link(out: &mut [u8], at: usize, link: Link) -> usize
     ensures { λ r. ⌜ sheet (now (out .exit)) r ≡ puts (lineText (linkLine link)) (sheet (now (out .entry)) at) ⌝ }
 {
-    let word = put_text(out, at, b"link");
     let numbers = [link.address as u64, link.tag as u64, link.kind as u64];
-    let fields = put_fields(out, word, &numbers);
-    put_text(out, fields, b"\n")
+    put_line(out, at, b"link", &numbers)
 }

@@ -1,23 +1,15 @@
--- The word, the version, and the line feed.
+-- The word and the version.
 -- Assumes nothing.
 use borrow.Author.Needs.{needs}
 use Rattle.laws.specs.Fills.{tabulate}
 use Rattle.texts.specs.Text.{text}
-use Rattle.fields.proofs.FieldsText.{put-line}
 use Rattle.plant.specs.Written.{firstLine}
 use Rattle.plant_writer.proofs.lines.put_first.Statement.{statement}
 use Rattle.plant_writer.proofs.lines.put_first.Tie as tie
 
 returns : tie.Need-returns
 unfolding text tabulate firstLine
-returns c =
-    let ended = c .before .before in
-    let fields = ended .before .before .before .before .before in
-    put-line _ _ _ (fields .before .before .before .before .before .put-text .ensures) (fields .put-fields .ensures) (ended .put-text2 .ensures)
+returns c = c .before .before .put-line .ensures
 
 pub put-first-spec : {M : Type 1} → statement M
-put-first-spec =
-    tie.close
-    (tie.spec
-    (λ c. search needs) (λ c κs. search needs) (λ c. search needs) (λ c κs. search needs) (λ c. search needs) (λ c κs. search needs) (λ c. search needs)
-    returns)
+put-first-spec = tie.close (tie.spec (λ c. search needs) (λ c. search needs) (λ c κs. search needs) (λ c. search needs) returns)
