@@ -1,6 +1,8 @@
 /* The command language of docs/COMMANDS.md. */
 
 #include "commands.h"
+#include "file_word.h"
+#include "plant.h"
 #include "why.h"
 
 #include <string.h>
@@ -147,6 +149,26 @@ static void put_explanation(struct text *text, struct explanation answer)
     put(text, reasons[answer.reason]);
     if (answer.reason == WAITS_FOR_THE_PAUSE)
         put_after_blank(text, answer.left);
+}
+
+/* The answer and the file as one word, or ` -` for a refused call: "each tab as
+   `\t`, each line feed as `\n`, every other byte as it is" */
+static void put_file(struct text *text, struct answer answer, const char *file)
+{
+    put_answer(text, answer);
+    if (answer.number != DONE) {
+        put(text, " -");
+        return;
+    }
+    put(text, " ");
+    for (uint64_t i = 0; i < answer.count; i++) {
+        if (file[i] == '\t')
+            put(text, "\\t");
+        else if (file[i] == '\n')
+            put(text, "\\n");
+        else
+            put_byte(text, file[i]);
+    }
 }
 
 /* ---- Show ------------------------------------------------------------ */
@@ -345,6 +367,15 @@ static void do_why(struct panel *panel, const uint64_t *a, size_t count,
     put_explanation(text, why(panel, a[0], a[1], a[2]));
 }
 
+/* "Of more than 16,384 bytes only so many are used." */
+static void do_write(struct panel *panel, const uint64_t *a, size_t count,
+                     struct text *text)
+{
+    static char file[PLANT_BYTES];
+    uint64_t lent = count == 0 || a[0] > PLANT_BYTES ? PLANT_BYTES : a[0];
+    put_file(text, write_plant(panel, file, lent), file);
+}
+
 static void do_show(struct panel *panel, const uint64_t *a, size_t count,
                     struct text *text)
 {
@@ -362,7 +393,19 @@ static void do_new(struct panel *panel, const uint64_t *a, size_t count,
     put(text, "0");
 }
 
-/* Each command with the numbers of arguments that it takes. */
+/* What is wrong with the word, or a null pointer after reading the file. */
+static const char *do_read(struct panel *panel, struct word word, struct text *text)
+{
+    static char file[LINE_BYTES];
+    size_t length;
+    if (!unpack_file(word.bytes, word.length, file, &length))
+        return "not a file in one word";
+    put_number(text, read_plant(file, length, panel));
+    return NULL;
+}
+
+/* Each command with the numbers of arguments that it takes. The argument of
+   `read` is no number: do_read carries it out. */
 static const struct {
     const char *name;
     size_t few, many;
@@ -381,6 +424,8 @@ static const struct {
     { "inv", 0, 0, do_inv },
     { "percent", 1, 1, do_percent },
     { "why", 3, 3, do_why },
+    { "write", 0, 1, do_write },
+    { "read", 1, 1, NULL },
     { "show", 0, 0, do_show },
     { "new", 0, 0, do_new },
 };
@@ -410,6 +455,8 @@ static const char *carry_out_words(struct panel *panel, const struct words *word
         return "unknown command";
     if (count != commands[which].few && count != commands[which].many)
         return "wrong number of arguments";
+    if (commands[which].carry_out == NULL)
+        return do_read(panel, words->kept[1], text);
     for (size_t i = 0; i < count; i++)
         if (!read_number(words->kept[1 + i], &arguments[i]))
             return "not a decimal number of up to 64 bits";

@@ -7,7 +7,7 @@
 
 #include <stddef.h>
 
-enum { LINE_BYTES = 256 };
+enum { LINE_BYTES = 32768 };
 
 /* The longest answer is `show` of 64 blinds and 512 links, below 20,000
    bytes. */

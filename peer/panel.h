@@ -2,7 +2,7 @@
    that the first implementation is compared with. Plain on purpose: the
    panel is one struct, the table is a sorted array, a time step is a loop
    over milliseconds. Words in quotation marks are document 01's; those after
-   "K2:", "K4:" or "K5:" are that request's, in document 02. */
+   "K2:" to "K5:" are that request's, in document 02. */
 
 #ifndef PANEL_H
 #define PANEL_H
@@ -27,7 +27,8 @@ enum number {
     WOULD_PASS_127 = 9,
     TERMINAL_IN_USE = 10,
     NOT_EXACTLY_THE_CELLS = 11,
-    NOT_A_SOUND_PANEL = 12
+    NOT_A_SOUND_PANEL = 12,
+    BUFFER_TOO_SHORT = 13 /* K3: "(new, checked with 11)" */
 };
 
 /* "Parameters of a blind (house ranges, milliseconds)" */

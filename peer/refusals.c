@@ -2,8 +2,11 @@
    and answer 12 for each clause of the paragraph "Sound" and for anything in
    an unused link place, by every call that takes a panel, in the order 11,
    12, 1, with panel and cells untouched; the same of `why`, in the order 12,
-   1, 2. Also: a removal leaves 0 in the places that it frees. */
+   1, 2, and of the plant file's writer, in the order 13, 12. Also: a removal
+   leaves 0 in the places that it frees. plants.c has the rest of K3. */
 
+#include "refusals.h"
+#include "plant.h"
 #include "why.h"
 
 #include <stdio.h>
@@ -11,7 +14,7 @@
 
 static int checks, wrong;
 
-static void expect(int holds, const char *what)
+void expect(int holds, const char *what)
 {
     checks += 1;
     if (!holds) {
@@ -22,9 +25,7 @@ static void expect(int holds, const char *what)
 
 /* ---- A sound panel with all sorts of blinds -------------------------- */
 
-/* Blind 1 rests, 2 runs a full run up, 3 waits for a full run down, 4 runs a
-   step, 5 waits for a step, 6 runs to a position, 7 waits for one. */
-static struct panel sound_panel(void)
+struct panel sound_panel(void)
 {
     uint16_t cells[TAGS];
     struct parameters p = { 2000, 300, 400, 1, 2, 3 };
@@ -75,6 +76,23 @@ static void expect_12_of_why(const struct panel *damaged, const char *what)
     expect(refuses(why(&panel, 1, 100, 256), NOT_A_SOUND_PANEL), what);
     expect(refuses(why(&panel, huge, huge, huge), NOT_A_SOUND_PANEL), what);
     expect(memcmp(&panel, damaged, sizeof panel) == 0, what);
+}
+
+/* K3: "a shorter buffer is answered 13 (new, checked with 11) and an unsound
+   panel 12." */
+static void expect_12_of_write(const struct panel *damaged, const char *what)
+{
+    static struct panel panel;
+    static char file[PLANT_BYTES], kept[PLANT_BYTES];
+    memcpy(&panel, damaged, sizeof panel);
+    memset(file, 0xa5, sizeof file);
+    memcpy(kept, file, sizeof kept);
+    struct answer unsound = write_plant(&panel, file, PLANT_BYTES);
+    struct answer too_short = write_plant(&panel, file, PLANT_BYTES - 1);
+    expect(unsound.number == NOT_A_SOUND_PANEL && unsound.count == 0, what);
+    expect(too_short.number == BUFFER_TOO_SHORT && too_short.count == 0, what);
+    expect(memcmp(&panel, damaged, sizeof panel) == 0, what);
+    expect(memcmp(file, kept, sizeof file) == 0, what);
 }
 
 /* Whether every call answers 12, counts 0, also with arguments that would
@@ -129,6 +147,7 @@ static void expect_12_everywhere(const struct panel *damaged, const char *what)
         expect(!is_sound(&p), #what);                                       \
         expect_12_everywhere(&p, #what);                                    \
         expect_12_of_why(&p, #what);                                        \
+        expect_12_of_write(&p, #what);                                      \
     } while (0)
 
 /* A sound panel with one thing changed is still sound. */
@@ -382,6 +401,7 @@ int main(void)
     cells_lent();
     why_refused();
     why_at_rest();
+    plant_files();
     printf("%d checks, %d wrong\n", checks, wrong);
     return wrong != 0;
 }

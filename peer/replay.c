@@ -1,12 +1,15 @@
 /* A panel on the bench: reads commands from standard input, one a line,
-   carries each out on one panel that starts empty, and writes one line for
-   each (docs/COMMANDS.md). */
+   carries each out on one panel, and writes one line for each. The panel
+   starts empty, or from the plant file that is the argument
+   (docs/COMMANDS.md). */
 
 #define _POSIX_C_SOURCE 200809L
 
 #include "commands.h"
+#include "plant.h"
 
 #include <errno.h>
+#include <fcntl.h>
 #include <stdio.h>
 #include <stdlib.h>
 #include <string.h>
@@ -15,7 +18,8 @@
 static struct panel panel;
 static uint64_t line_number;
 
-/* The line that is being read; line_length 257 says that it is too long. */
+/* The line that is being read; a line_length above LINE_BYTES says that it is
+   too long. */
 static char line[LINE_BYTES];
 static size_t line_length;
 
@@ -83,9 +87,49 @@ static void take(char byte)
         line_length = LINE_BYTES + 1;
 }
 
-int main(void)
+/* Reads the whole plant file, or one byte more than the longest has. */
+static size_t read_file(const char *path, char *bytes)
+{
+    size_t length = 0;
+    int file = open(path, O_RDONLY);
+    if (file < 0)
+        give_up("the plant file could not be read");
+    while (length <= PLANT_BYTES) {
+        ssize_t n = read(file, bytes + length, PLANT_BYTES + 1 - length);
+        if (n < 0 && errno != EINTR)
+            give_up("the plant file could not be read");
+        if (n == 0)
+            break;
+        if (n > 0)
+            length += (size_t)n;
+    }
+    close(file);
+    return length;
+}
+
+/* "the panel starts as the file's in place of empty" */
+static void start_from(const char *path)
+{
+    static char bytes[PLANT_BYTES + 1];
+    char bad_line[64];
+    size_t length = read_file(path, bytes);
+    if (length > PLANT_BYTES)
+        give_up("the plant file is too long");
+    uint64_t number = read_plant(bytes, length, &panel);
+    if (number == 0)
+        return;
+    snprintf(bad_line, sizeof bad_line, "the plant file is bad in line %llu",
+             (unsigned long long)number);
+    give_up(bad_line);
+}
+
+int main(int count, char **arguments)
 {
     panel = empty_panel();
+    if (count > 2)
+        give_up("more than one plant file");
+    if (count == 2)
+        start_from(arguments[1]);
     for (;;) {
         ssize_t n = read(STDIN_FILENO, input, sizeof input);
         if (n < 0 && errno == EINTR)

@@ -8,54 +8,12 @@
    addresses and moments that matter. */
 
 #include "../../peer/commands.h"
+#include "chance.h"
+#include "files.h"
 
 #include <stdio.h>
 #include <stdlib.h>
 #include <string.h>
-
-/* ---- Chance ---------------------------------------------------------- */
-
-static uint64_t state;
-
-/* splitmix64 */
-static uint64_t next(void)
-{
-    uint64_t z = state += 0x9e3779b97f4a7c15u;
-    z = (z ^ (z >> 30)) * 0xbf58476d1ce4e5b9u;
-    z = (z ^ (z >> 27)) * 0x94d049bb133111ebu;
-    return z ^ (z >> 31);
-}
-
-static uint64_t below(uint64_t n)
-{
-    return next() % n;
-}
-
-static uint64_t between(uint64_t least, uint64_t most)
-{
-    return least + below(most - least + 1);
-}
-
-/* In so many of a thousand cases. */
-static int chance(uint64_t of_a_thousand)
-{
-    return below(1000) < of_a_thousand;
-}
-
-#define ONE_OF(list) ((list)[below(sizeof(list) / sizeof(list)[0])])
-
-/* Which of the weights, each as often as it is heavy. */
-static size_t by_weight(const unsigned *weights, size_t count)
-{
-    uint64_t sum = 0;
-    for (size_t i = 0; i < count; i++)
-        sum += weights[i];
-    uint64_t left = below(sum);
-    size_t i = 0;
-    while (left >= weights[i])
-        left -= weights[i++];
-    return i;
-}
 
 /* ---- The picture ----------------------------------------------------- */
 
@@ -166,17 +124,16 @@ static void new_mood(void)
 
 enum { WORDS = 16, WORD_BYTES = 64 };
 
+/* The bytes are kept by whoever adds the word. */
 static struct {
-    char bytes[WORD_BYTES];
+    const char *bytes;
     size_t length;
 } words[WORDS];
 static size_t word_count;
 
 static void add_bytes(const char *bytes, size_t length)
 {
-    if (word_count == WORDS)
-        return;
-    memcpy(words[word_count].bytes, bytes, length);
+    words[word_count].bytes = bytes;
     words[word_count].length = length;
     word_count += 1;
 }
@@ -188,36 +145,15 @@ static void add(const char *word)
 
 static void add_number(uint64_t value)
 {
-    char text[WORD_BYTES];
+    static char texts[WORDS][WORD_BYTES]; /* by the place in the line */
+    char *text = texts[word_count];
     int zeros = chance(8) ? (int)between(1, 24) : 0;
-    int length = snprintf(text, sizeof text, "%.*s%llu", zeros,
+    int length = snprintf(text, WORD_BYTES, "%.*s%llu", zeros,
                           "000000000000000000000000", (unsigned long long)value);
     add_bytes(text, (size_t)length);
 }
 
 /* ---- Arguments ------------------------------------------------------- */
-
-static const uint64_t edges[] = {
-    0, 1, 2, 3, 4, 7, 8, 9, 63, 64, 65, 99, 100, 101, 126, 127, 128, 129, 255,
-    256, 257, 511, 512, 513, 999, 1000, 1001, 9999, 10000, 10001, 32767, 32768,
-    59999, 60000, 60001, 65534, 65535, 65536, 65537, 599999, 600000, 600001,
-    0x7fffffff, 0x80000000, 0xffffffff, 0x100000000, 0x100000001,
-    0x7fffffffffffffff, 0x8000000000000000, 0xfffffffffffffffe,
-    0xffffffffffffffff
-};
-
-/* Far from the usual value, or near it once high bits are lost. */
-static uint64_t odd_number(uint64_t usual)
-{
-    switch (below(6)) {
-    case 0: return usual + (1 + below(3)) * 0x100;
-    case 1: return usual + (1 + below(3)) * 0x10000;
-    case 2: return usual + (1 + below(3)) * 0x100000000;
-    case 3: return usual + 0x8000000000000000;
-    case 4: return chance(500) ? 0 - usual : 0 - 1 - below(200);
-    default: return ONE_OF(edges);
-    }
-}
 
 static uint64_t or_odd(uint64_t usual)
 {
@@ -677,24 +613,72 @@ static void add_splice_out(void)
     add_number(chance(20) ? 0 - t + below(3) : or_odd(n));
 }
 
+/* ---- Plant files ----------------------------------------------------- */
+
+/* Files are read in rows: since a bad one leaves an empty panel, others that
+   are damaged cost no more, and the panel's own file ends the row. */
+static struct {
+    struct file good;
+    uint64_t left; /* files of the row to come */
+    int look;      /* `show` or `write` is to follow */
+} row;
+
+static void begin_row(void)
+{
+    good_file(&picture, &row.good);
+    row.left = chance(150) ? 1 : between(6, 16);
+}
+
+/* A file of the row, and seldom none or a second word. */
+static void add_read(void)
+{
+    static struct file file;
+    static char word[FILE_WORD_BYTES];
+    if (row.left == 0)
+        begin_row();
+    row.left -= 1;
+    file = row.good;
+    if (row.left > 0 || chance(50))
+        damage_file(&file);
+    row.look = chance(row.left > 0 ? 200 : 700);
+    add("read");
+    if (!chance(10))
+        add_bytes(word, pack_file(&file, word));
+    if (chance(20))
+        add("plant");
+}
+
+/* Mostly the whole buffer; else one that is as long, a byte shorter or longer,
+   or that is one of these once high bits are lost. */
+static void add_write(void)
+{
+    static const uint64_t lent[] = {
+        0, 1, PLANT_BYTES - 1, PLANT_BYTES - 1, PLANT_BYTES, PLANT_BYTES, PLANT_BYTES + 1
+    };
+    uint64_t bytes = ONE_OF(lent);
+    add("write");
+    if (chance(300))
+        add_number(chance(400) ? odd_number(bytes) : bytes);
+}
+
 /* ---- Commands -------------------------------------------------------- */
 
 enum command {
     INSTALL, REMOVE, PARAMS, LINK, UNLINK, IN, OUT, TEL, TIME, STRIP, INV, PERCENT,
-    WHY, SHOW, NEW, COMMANDS
+    WHY, WRITE, READ, SHOW, NEW, COMMANDS
 };
 
 /* How often each command comes, in the order of the list above. */
 static const unsigned normally[COMMANDS] =
-    { 20, 8, 14, 60, 25, 16, 14, 350, 260, 50, 12, 12, 95, 90, 1 };
+    { 20, 8, 14, 60, 25, 16, 14, 350, 260, 50, 12, 12, 95, 10, 2, 90, 1 };
 static const unsigned in_a_burst[COMMANDS] =
-    { 40, 40, 120, 60, 30, 240, 200, 60, 20, 10, 10, 5, 20, 140, 0 };
+    { 40, 40, 120, 60, 30, 240, 200, 60, 20, 10, 10, 5, 20, 10, 0, 140, 0 };
 static const unsigned in_a_crowd[COMMANDS] =
-    { 40, 8, 10, 300, 100, 20, 20, 220, 50, 25, 40, 10, 60, 12, 0 };
+    { 40, 8, 10, 300, 100, 20, 20, 220, 50, 25, 40, 10, 60, 5, 2, 12, 0 };
 static const unsigned to_install[COMMANDS] =
-    { 900, 5, 5, 30, 5, 5, 5, 10, 10, 5, 10, 5, 10, 10, 0 };
+    { 900, 5, 5, 30, 5, 5, 5, 10, 10, 5, 10, 5, 10, 10, 1, 10, 0 };
 static const unsigned to_link[COMMANDS] =
-    { 20, 1, 5, 900, 10, 3, 3, 60, 20, 5, 10, 5, 20, 10, 0 };
+    { 20, 1, 5, 900, 10, 3, 3, 60, 20, 5, 10, 5, 20, 5, 2, 10, 0 };
 
 static enum command a_command(void)
 {
@@ -702,6 +686,10 @@ static enum command a_command(void)
     const unsigned *weights = normally;
     if (aim.follows)
         return TEL;
+    if (row.look)
+        return chance(500) ? SHOW : WRITE;
+    if (row.left > 0)
+        return READ;
     if (link_to_a_long_step() && chance(500))
         return WHY;
     if (blinds == TAGS && chance(20))
@@ -749,6 +737,7 @@ static void add_percent(void)
 
 static void add_command(enum command command)
 {
+    row.look = 0;
     switch (command) {
     case INSTALL: add_install(); break;
     case REMOVE: add("remove"); add_number(or_odd(a_tag())); break;
@@ -763,6 +752,8 @@ static void add_command(enum command command)
     case INV: add("inv"); break;
     case PERCENT: add_percent(); break;
     case WHY: add_why(); break;
+    case WRITE: add_write(); break;
+    case READ: add_read(); break;
     case SHOW: add("show"); break;
     default: add("new"); break;
     }
@@ -775,12 +766,12 @@ static void damage_command(void)
     static const char *const names[] = {
         "Install", "NEW", "instal", "installs", "tell", "te", "tel1", "times",
         "i", "in.", "outt", "stripe", "invent", "percen", "percents", "%", "wh",
-        "whys", "why?", "Why", "sho", "shows", "news", "0", "error:", "quit", "help",
-        "-", "new#", "parameters", "links", "\"inv\""
+        "whys", "why?", "Why", "reads", "rea", "Read", "writ", "write1", "wread", "sho",
+        "shows", "news", "0", "error:", "quit", "help", "-", "new#", "parameters", "links", "\"inv\""
     };
     const char *name = ONE_OF(names);
+    words[0].bytes = name;
     words[0].length = strlen(name);
-    memcpy(words[0].bytes, name, words[0].length);
 }
 
 static void damage_number(void)
@@ -798,8 +789,8 @@ static void damage_number(void)
     if (word_count < 2)
         return;
     size_t which = (size_t)between(1, word_count - 1);
+    words[which].bytes = number;
     words[which].length = strlen(number);
-    memcpy(words[which].bytes, number, words[which].length);
 }
 
 static void damage_words(void)
@@ -866,13 +857,17 @@ static void damage_bytes(void)
     }
 }
 
+/* Mostly short of what a line may have, else around it, else far beyond. */
 static size_t a_long_length(void)
 {
-    static const size_t lengths[] = {
-        254, 255, 256, 256, 257, 257, 258, 300, 511, 512, 513, 514, 520, 1000, 4097
+    static const size_t lengths[] = { 255, 256, 257, 258, 512, 513, 1000, 4096, 4097 };
+    static const size_t ends[] = {
+        LINE_BYTES - 1, LINE_BYTES, LINE_BYTES, LINE_BYTES + 1, LINE_BYTES + 1, LINE_BYTES + 2
     };
-    static const size_t very[] = { 8192, 65535, 65536, 65537, 131073, LONGEST };
-    return chance(20) ? ONE_OF(very) : ONE_OF(lengths);
+    static const size_t very[] = { 65535, 65536, 65537, 131073, LONGEST };
+    if (chance(20))
+        return ONE_OF(very);
+    return chance(450) ? ONE_OF(ends) : ONE_OF(lengths);
 }
 
 /* Stretches the line: blanks before it, within it or after it, or zeros
@@ -928,7 +923,7 @@ static void command_line(void)
     join_words();
     if (damaged && chance(400))
         damage_bytes();
-    if (chance(5))
+    if (chance(2))
         stretch();
 }
 
@@ -965,7 +960,7 @@ int main(int count, char **arguments)
     }
     uint64_t seed = strtoull(arguments[1], NULL, 10);
     uint64_t wanted = strtoull(arguments[2], NULL, 10);
-    state = seed;
+    begin_chance(seed);
     picture = empty_panel();
     for (uint64_t number = 1, answered = 0; answered < wanted; number++)
         answered += (uint64_t)write_line(number);

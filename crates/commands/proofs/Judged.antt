@@ -7,7 +7,6 @@ use mathlib.Core.Bool.{Bool, true, false, cond, not}
 use mathlib.Core.List.{List, map}
 use lib.ListN.{length, getD}
 use Rattle.laws.specs.Every.{every}
-use Rattle.params.specs.Numbers.{setSize}
 use Rattle.decimals.specs.Decimals.{isNumber, valueOf, numberOf}
 use Rattle.names.specs.declared.Entry.{Entry}
 use Rattle.names.specs.Names.{takes}
@@ -19,7 +18,7 @@ use Rattle.commands.specs.declared.Meaning.{Meaning}
 use Rattle.commands.specs.Lines.{called, judged}
 use Rattle.commands.proofs.Counting.{takes-few, takes-most}
 
-judged-alike : (entry : Entry) (count : ℕ) (numeric : Bool) (f g : ℕ → ℕ) → entry .plain + setSize ≤ most → (count ≤ most → numeric ≡ true → f ≡ g)
+judged-alike : (entry : Entry) (count : ℕ) (numeric : Bool) (f g : ℕ → ℕ) → entry .plain + entry .more ≤ most → (count ≤ most → numeric ≡ true → f ≡ g)
     → judged entry (min count (most + 1)) numeric f ≡ judged entry count numeric g
 unfolding judged
 judged-alike entry count numeric f g fits same =
@@ -41,7 +40,7 @@ judged-alike entry count numeric f g fits same =
         let small : count ≤ most = few refl in
         ap Meaning.Call (ap₂ (called (entry .name)) (omega arith) (same small refl))
 
-pub collected : (entry : Entry) (words : List (List ℕ)) → entry .plain + setSize ≤ most
+pub collected : (entry : Entry) (words : List (List ℕ)) → entry .plain + entry .more ≤ most
     → judged entry (heard nothing words .count) (heard nothing words .numeric) (valueAt (heard nothing words))
     ≡ judged entry (length words) (every isNumber words) (λ place. getD (map valueOf words) place 0)
 unfolding nothing numberOf

@@ -1,5 +1,6 @@
 // The command language of the bench, one command a line: a line is read as a command, as something to pass over, or as a
 // mistake. Nothing is carried out here.
+pub mod file_line;
 pub mod lines;
 
 use params::Asked;
@@ -26,6 +27,7 @@ pub enum Command {
     Time(u64),
     Percent(u64),
     Why(u64, u64, u64),
+    Write(u64),
 }
 
 // What can be wrong with a line.
@@ -34,11 +36,13 @@ pub enum Fault {
     UnknownCommand,
     WrongCount,
     NotANumber,
+    NotAFile,
 }
 
-// What a line means.
+// What a line means. A file is carried out where the line is at hand: it is as long as the line.
 pub enum Meaning {
     Silent,
     Call(Command),
+    File,
     Wrong(Fault),
 }

@@ -3,11 +3,14 @@ use crate::Command;
 use crate::Edit;
 use crate::Fault;
 use crate::Meaning;
+use crate::file_line::read_file;
 use arguments::Arguments;
 use names::Entry;
 use names::Name;
 use params::Asked;
 use params::SET;
+use plant::ROOM;
+use words::is_same;
 use words::word_end;
 use words::word_start;
 ghost use Prim.Native.Nat.{_≤_};
@@ -15,10 +18,10 @@ ghost use mathlib.Core.Path.{_≡_};
 ghost use lib.ListN.{take, length};
 ghost use Rattle.words.specs.Words.{words};
 ghost use Rattle.arguments.specs.Arguments.{valueAt};
-ghost use Rattle.commands.specs.Lines.{withoutReturn, setAfter, meaningOf, judged, called, lineMeans};
+ghost use Rattle.commands.specs.Lines.{withoutReturn, setAfter, meaningOf, judged, called, lentBytes, lineMeans};
 
 // The longest line that is read; a carriage return counts, the line feed does not.
-pub const LONGEST: usize = 256;
+pub const LONGEST: usize = 32_768;
 
 const RETURN: u8 = 13;
 
@@ -36,7 +39,7 @@ pub fn read_line(line: &[u8]) -> Meaning
 }
 
 // Where a line ends: a carriage return at its end does not belong to it.
-fn end_of(line: &[u8]) -> usize
+pub(crate) fn end_of(line: &[u8]) -> usize
     ensures { λ r. ⌜ take r (now (line .entry)) ≡ withoutReturn (now (line .entry)) ⌝ }
     ensures { λ r. ⌜ r ≤ length (now (line .entry)) ⌝ }
 {
@@ -61,6 +64,9 @@ fn read_words(line: &[u8]) -> Meaning
         return Meaning::Silent;
     }
     let end = word_end(line, start);
+    if is_same(&line[start..end], b"read") {
+        return read_file(line, end);
+    }
     let entry = Entry::of(&line[start..end]);
     let arguments = Arguments::of(line, end);
     judge(entry, arguments)
@@ -106,7 +112,18 @@ fn call(name: Name, given: Arguments) -> Command
         Name::Time => Command::Time(a),
         Name::Percent => Command::Percent(a),
         Name::Why => Command::Why(a, b, c),
+        Name::Write => Command::Write(lent_bytes(given)),
     }
+}
+
+// How many bytes are lent for a file; where nothing is said, as many as it can need.
+fn lent_bytes(given: Arguments) -> u64
+    ensures { λ r. ⌜ r ≡ lentBytes (given .count) (valueAt given) ⌝ }
+{
+    if given.count == 0 {
+        return ROOM as u64;
+    }
+    given.values[0]
 }
 
 // The set of parameters after the first arguments; where there is none, the default set.

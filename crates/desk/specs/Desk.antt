@@ -1,10 +1,10 @@
 -- A command carried out: what it does to the panel, and the answer that it writes.
 -- Assumes nothing.
-use Prim.Native.Nat.{ℕ}
+use Prim.Native.Nat.{ℕ, min}
 use mathlib.Core.Bool.{cond}
 use mathlib.Core.List.{List, [], _∷_}
-use lib.ListN.{replicate}
-use lib.Dec.{leb}
+use lib.ListN.{take, replicate}
+use lib.Dec.{eqb, leb}
 use Rattle.answers.specs.Rules.{Result, carried}
 use Rattle.tags.specs.Tags.{places}
 use Rattle.params.specs.Numbers.{rowOf}
@@ -27,6 +27,8 @@ use Rattle.display.specs.Display.{percentOf}
 use Rattle.texts.specs.Text.{text}
 use Rattle.texts.specs.Sheet.{Sheet, sheet, puts, joined}
 use Rattle.decimals.specs.Decimals.{decimal}
+use Rattle.file_word.specs.FileWord.{packed}
+use Rattle.plant.specs.Written.{room, fileRule}
 use Rattle.commands.specs.declared.Command.{Command}
 use Rattle.commands.specs.declared.Edit.{Edit}
 use Rattle.shows.specs.Numbers.{spaced, counted}
@@ -74,6 +76,14 @@ editRule (Edit.Out t n) = spliceOutRule t n
 unfoldable pub percentText : ℕ → List ℕ
 percentText raw = cond (leb raw 255) (counted 0 (percentOf raw)) (counted 1 0)
 
+-- "`0 LENGTH FILE`, with the number of bytes and the file as one word"; where the call was refused, "-" stands for the file.
+unfoldable pub fileText : ℕ → ℕ → List ℕ → List ℕ
+fileText answer length lent =
+    joined (counted answer length ∷ text " " ∷ cond (eqb answer 0) (packed (take length lent)) (text "-") ∷ [])
+
+abbrev pub filed : Result Model Cells → Sheet → Desk
+filed r = wrote (r .leaves) (fileText (r .answer) (r .count) (r .cells .lent))
+
 -- What a command does to a panel and writes.
 unfoldable pub carriedOut : Command → Model → Sheet → Desk
 carriedOut Command.New m = wrote bare (text "0")
@@ -85,3 +95,4 @@ carriedOut (Command.Tel address value) m = celled noReport (carried (telegramRul
 carriedOut (Command.Time dt) m = celled noReport (carried (stepRule dt) m (row (replicate places noReport)))
 carriedOut (Command.Percent raw) m = wrote m (percentText raw)
 carriedOut (Command.Why tag address value) m = wrote m (reasonText (explained tag address value m))
+carriedOut (Command.Write asked) m = filed (carried fileRule m (row (replicate (min asked room) 0)))

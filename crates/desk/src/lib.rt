@@ -1,6 +1,10 @@
 // A command carried out on a panel: the panel's own call, or what a display shows, and the answer on a lent sheet.
+mod files;
 mod motors;
 
+use crate::files::clear;
+use crate::files::lent_of;
+use crate::files::put_file;
 use crate::motors::OFF;
 use crate::motors::widened;
 use answers::DONE;
@@ -15,6 +19,7 @@ use outputs::NO_REPORT;
 use panel::Panel;
 use panel::calls::Answered;
 use panel_text::put_panel;
+use plant_writer::write;
 use readings::inventory::inventory;
 use readings::strips::strip;
 use reason_text::put_reason;
@@ -69,6 +74,7 @@ pub fn carry_out(panel: Panel, command: Command, out: &mut [u8], at: usize) -> A
         Command::Time(dt) => pass(panel, dt, out, at),
         Command::Percent(raw) => tell_percent(panel, raw, out, at),
         Command::Why(tag, address, value) => tell_why(panel, tag, address, value, out, at),
+        Command::Write(lent) => tell_file(panel, lent, out, at),
     }
 }
 
@@ -149,6 +155,17 @@ fn tell_why(panel: Panel, tag: u64, address: u64, value: u64, out: &mut [u8], at
 {
     let reason = why(panel, tag, address, value);
     let next = put_reason(out, at, reason);
+    After { panel, at: next }
+}
+
+// The plant file, in as many bytes of the buffer as are to be lent.
+fn tell_file(panel: Panel, asked: u64, out: &mut [u8], at: usize) -> After
+    ensures { λ r. ⌜ deskOf r (now (out .exit)) ≡ carriedOut (Command.Write asked) (modelOf panel) (sheet (now (out .entry)) at) ⌝ }
+{
+    let mut buffer = clear();
+    let lent = lent_of(asked);
+    let done = write(panel, &mut buffer[..lent]);
+    let next = put_file(out, at, done, &buffer[..lent]);
     After { panel, at: next }
 }
 

@@ -12,6 +12,7 @@ faultText Fault.TooLong = text "line too long"
 faultText Fault.UnknownCommand = text "unknown command"
 faultText Fault.WrongCount = text "wrong number of arguments"
 faultText Fault.NotANumber = text "not a decimal number of up to 64 bits"
+faultText Fault.NotAFile = text "not a file in one word"
 
 -- "One line `error: ` and what is wrong, with the number of the input line".
 unfoldable pub errorText : ℕ → Fault → List ℕ

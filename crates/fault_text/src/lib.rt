@@ -23,5 +23,6 @@ fn put_fault(out: &mut [u8], at: usize, fault: Fault) -> usize
         Fault::UnknownCommand => put_text(out, at, b"unknown command"),
         Fault::WrongCount => put_text(out, at, b"wrong number of arguments"),
         Fault::NotANumber => put_text(out, at, b"not a decimal number of up to 64 bits"),
+        Fault::NotAFile => put_text(out, at, b"not a file in one word"),
     }
 }

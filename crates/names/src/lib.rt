@@ -5,6 +5,9 @@ use words::is_same;
 ghost use mathlib.Core.Path.{_≡_};
 ghost use Rattle.names.specs.Names.{unknown, taking, entryFor, entryOf, takes as ofNames·takes};
 
+// A set of parameters, all of it or nothing.
+const A_SET: u8 = SET as u8;
+
 pub enum Name {
     New,
     Show,
@@ -21,15 +24,16 @@ pub enum Name {
     Time,
     Percent,
     Why,
+    Write,
 }
 
-// What is known of a word: whether it names a command, and if so which, how many arguments that takes, and whether a set
-// of parameters may follow.
+// What is known of a word: whether it names a command, and if so which, how many arguments that takes, and how many more
+// may follow.
 pub struct Entry {
     pub known: bool,
     pub name: Name,
     plain: u8,
-    set: bool,
+    more: u8,
 }
 
 impl Entry {
@@ -40,7 +44,7 @@ impl Entry {
             known: false,
             name: Name::New,
             plain: 0,
-            set: false,
+            more: 0,
         }
     }
 
@@ -49,33 +53,34 @@ impl Entry {
         ensures { λ r. ⌜ r ≡ entryOf (now (word .entry)) ⌝ }
     {
         let none = Entry::unknown();
-        let new = none.or(word, b"new", Name::New, 0, false);
-        let show = new.or(word, b"show", Name::Show, 0, false);
-        let why = show.or(word, b"why", Name::Why, 3, false);
-        let percent = why.or(word, b"percent", Name::Percent, 1, false);
-        let inv = percent.or(word, b"inv", Name::Inv, 0, false);
-        let strip = inv.or(word, b"strip", Name::Strip, 0, false);
-        let time = strip.or(word, b"time", Name::Time, 1, false);
-        let tel = time.or(word, b"tel", Name::Tel, 2, false);
-        let out = tel.or(word, b"out", Name::Out, 2, false);
-        let splice_in = out.or(word, b"in", Name::In, 2, false);
-        let unlink = splice_in.or(word, b"unlink", Name::Unlink, 3, false);
-        let link = unlink.or(word, b"link", Name::Link, 3, false);
-        let params = link.or(word, b"params", Name::Params, 1, true);
-        let remove = params.or(word, b"remove", Name::Remove, 1, false);
-        remove.or(word, b"install", Name::Install, 2, true)
+        let new = none.or(word, b"new", Name::New, 0, 0);
+        let show = new.or(word, b"show", Name::Show, 0, 0);
+        let write = show.or(word, b"write", Name::Write, 0, 1);
+        let why = write.or(word, b"why", Name::Why, 3, 0);
+        let percent = why.or(word, b"percent", Name::Percent, 1, 0);
+        let inv = percent.or(word, b"inv", Name::Inv, 0, 0);
+        let strip = inv.or(word, b"strip", Name::Strip, 0, 0);
+        let time = strip.or(word, b"time", Name::Time, 1, 0);
+        let tel = time.or(word, b"tel", Name::Tel, 2, 0);
+        let out = tel.or(word, b"out", Name::Out, 2, 0);
+        let splice_in = out.or(word, b"in", Name::In, 2, 0);
+        let unlink = splice_in.or(word, b"unlink", Name::Unlink, 3, 0);
+        let link = unlink.or(word, b"link", Name::Link, 3, 0);
+        let params = link.or(word, b"params", Name::Params, 1, A_SET);
+        let remove = params.or(word, b"remove", Name::Remove, 1, 0);
+        remove.or(word, b"install", Name::Install, 2, A_SET)
     }
 
     // The command of these letters if the word is these, and otherwise what is known already.
-    fn or(self, word: &[u8], letters: &[u8], name: Name, plain: u8, set: bool) -> Entry
-        ensures { λ r. ⌜ r ≡ entryFor (now (word .entry)) (now (letters .entry)) (taking name plain set) self ⌝ }
+    fn or(self, word: &[u8], letters: &[u8], name: Name, plain: u8, more: u8) -> Entry
+        ensures { λ r. ⌜ r ≡ entryFor (now (word .entry)) (now (letters .entry)) (taking name plain more) self ⌝ }
     {
         if is_same(word, letters) {
             Entry {
                 known: true,
                 name,
                 plain,
-                set,
+                more,
             }
         } else {
             self
@@ -90,9 +95,6 @@ impl Entry {
         if count == plain {
             return true;
         }
-        if self.set {
-            return count == plain + SET;
-        }
-        false
+        count == plain + self.more as usize
     }
 }

@@ -1,7 +1,10 @@
-// A panel on the bench: commands from standard input, one a line, each carried out on one panel that starts empty and
-// answered on standard output by one line. The work is in the crate replies; here bytes are only fetched and handed on.
+// A panel on the bench: commands from standard input, one a line, each carried out on one panel and answered on standard
+// output by one line. The work is in the crate replies; here bytes are only fetched and handed on.
 mod output;
+mod start;
 
+use commands::lines::LONGEST;
+use intake::fetch;
 use libc::STDERR_FILENO;
 use libc::STDIN_FILENO;
 use output::send;
@@ -10,11 +13,10 @@ use replies::answer_line;
 use rows::least;
 use rows::line_end;
 use rows::move_to_front;
-ghost use Prim.Native.Nat.{_≤_};
-ghost use lib.ListN.{length};
+use start::first_panel;
 
 // An unfinished line is kept up to the first byte that makes it too long: what follows cannot mend it.
-const MOST_KEPT: usize = 257;
+const MOST_KEPT: usize = LONGEST + 1;
 
 // When so much is written the sheet is sent off: a pipe takes less than this whole or not at all, and the longest answer,
 // of 64 blinds and 512 links, still fits after it.
@@ -31,21 +33,17 @@ struct Bench {
     is_open: bool,
 }
 
-// What a read gave: how many bytes there are then, 0 where none came. A read that failed is not the end of the input.
-struct Heard {
-    have: usize,
-    failed: bool,
-}
-
 fn main() {
     let mut input = io::large_buffer();
     let mut out = io::large_buffer();
-    serve(&mut input, &mut out);
+    let begun = first_panel();
+    if begun.good {
+        serve(begun.panel, &mut input, &mut out);
+    }
 }
 
 // A proved loop has to end, and nothing says that the input does: the turns are more than any run uses up.
-fn serve(input: &mut [u8], out: &mut [u8]) {
-    let panel = Panel::empty();
+fn serve(panel: Panel, input: &mut [u8], out: &mut [u8]) {
     let mut bench = Bench {
         panel,
         lines: 0,
@@ -65,7 +63,7 @@ fn serve(input: &mut [u8], out: &mut [u8]) {
 
 // Whoever reads the answers waits for them, so the sheet is sent off before more input is asked for.
 fn hear(bench: Bench, input: &mut [u8], out: &mut [u8]) -> Bench {
-    let heard = fetch(input, bench.kept);
+    let heard = fetch(STDIN_FILENO, input, bench.kept);
     let have = heard.have;
     if heard.failed {
         io::write_all(STDERR_FILENO, b"replay: the input could not be read\n");
@@ -82,30 +80,6 @@ fn hear(bench: Bench, input: &mut [u8], out: &mut [u8]) -> Bench {
     let kept = move_to_front(input, start, left(start, have));
     let sent = sent_off(next, out);
     Bench { kept, ..sent }
-}
-
-// Reads after the bytes that are kept.
-fn fetch(input: &mut [u8], kept: usize) -> Heard
-    ensures { λ r. ⌜ r .«have» ≤ length (now (input .exit)) ⌝ }
-{
-    if input.len() <= kept {
-        return Heard {
-            have: 0,
-            failed: false,
-        };
-    }
-    let got = libc::read(STDIN_FILENO, &mut input[kept..]);
-    let more = io::count(got, &input[kept..]);
-    if more == 0 {
-        return Heard {
-            have: 0,
-            failed: got < 0,
-        };
-    }
-    Heard {
-        have: kept + more,
-        failed: false,
-    }
 }
 
 // How many bytes of an unfinished line are kept.

@@ -1,5 +1,8 @@
 // The bench, a line in and an answer line out: each line is carried out on a panel, and its answer is written on a lent
 // sheet. A line that is wrong changes nothing and is answered all the same.
+mod files;
+
+use crate::files::load;
 use commands::Meaning;
 use commands::lines::read_line;
 use desk::After;
@@ -25,6 +28,7 @@ pub fn answer_line(panel: Panel, number: u64, line: &[u8], out: &mut [u8], at: u
             let error = put_error(out, at, number, fault);
             end_line(After { panel, at: error }, out)
         }
+        Meaning::File => end_line(load(line, out, at), out),
     }
 }
 

@@ -59,6 +59,9 @@ returns-8 c = of-command _ _ (c .before .before .before .before .before .command
 returns-9 : tie.Need-returns-9
 returns-9 c = of-command _ _ (c .before .before .before .before .before .command5 .given .1) (c .before .before .tell-why .ensures)
 
+returns-10 : tie.Need-returns-10
+returns-10 c = of-command _ _ (c .before .before .before .before .before .command6 .given .1) (c .before .before .tell-file .ensures)
+
 pub carry-out-spec : {M : Type 1} → statement M
 carry-out-spec =
     tie.close
@@ -66,7 +69,7 @@ carry-out-spec =
     (λ c. search needs) (λ c. search needs) (λ c κs. search needs) (λ c κs. search needs) (λ c. search needs) (λ c κs. search needs)
     (λ c. search needs) (λ c κs. search needs) (λ c. search needs) (λ c κs. search needs) (λ c. search needs) (λ c κs. search needs)
     (λ c κs. search needs) (λ c. search needs) (λ c κs. search needs) (λ c. search needs) (λ c κs. search needs) (λ c. search needs)
-    (λ c κs. search needs) (λ c. search needs) (λ c κs. search needs) (λ c. search needs)
+    (λ c κs. search needs) (λ c. search needs) (λ c κs. search needs) (λ c. search needs) (λ c κs. search needs) (λ c. search needs)
     returns
     (λ c. search needs)
     returns-2
@@ -83,4 +86,6 @@ carry-out-spec =
     (λ c. search needs)
     returns-8
     (λ c. search needs)
-    returns-9)
+    returns-9
+    (λ c. search needs)
+    returns-10)

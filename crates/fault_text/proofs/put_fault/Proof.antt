@@ -31,10 +31,16 @@ returns-4 : tie.Need-returns-4
 unfolding faultText text tabulate
 returns-4 c = of-fault _ (c .before .before .before .before .before .enum-told4 .given .1) (c .before .before .put-text4 .ensures)
 
+returns-5 : tie.Need-returns-5
+unfolding faultText text tabulate
+returns-5 c = of-fault _ (c .before .before .before .before .before .enum-told5 .given .1) (c .before .before .put-text5 .ensures)
+
 pub put-fault-spec : {M : Type 1} → statement M
 put-fault-spec =
     tie.close
     (tie.spec
     (λ c. search needs) (λ c. search needs) (λ c κs. search needs) (λ c. search needs) (λ c. search needs) (λ c κs. search needs)
     (λ c. search needs) (λ c. search needs) (λ c κs. search needs) (λ c. search needs) (λ c. search needs) (λ c κs. search needs)
-    (λ c. search needs) returns (λ c. search needs) returns-2 (λ c. search needs) returns-3 (λ c. search needs) returns-4)
+    (λ c. search needs) (λ c. search needs) (λ c κs. search needs)
+    (λ c. search needs) returns (λ c. search needs) returns-2 (λ c. search needs) returns-3 (λ c. search needs) returns-4
+    (λ c. search needs) returns-5)

@@ -9,7 +9,7 @@ use Rattle.replay.proofs.hear.Tie as tie
 answered : tie.Need-slice-aggregate-answer-lines
 answered c =
     let read = c .before .before .before .before .before in
-    sym (length-take-le (read .fetch .result .have) (read .fetch .last .0) (read .fetch .ensures))
+    sym (length-take-le (read .fetch .result .have) (read .fetch .last .1 .0) (read .fetch .ensures))
 
 pub hear-spec : {M : Type 1} → statement M
 hear-spec =

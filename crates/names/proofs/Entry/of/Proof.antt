@@ -30,24 +30,26 @@ returns c =
     let inv = strip .before .before in
     let percent = inv .before .before in
     let why = percent .before .before in
-    let show = why .before .before in
+    let write = why .before .before in
+    let show = write .before .before in
     let new = show .before .before in
     let word = new .before .before .before .before .args .word .now in
-    row word _ _ (c .or15 .ensures)
-    (row word _ _ (remove .or14 .ensures)
-    (row word _ _ (params .or13 .ensures)
-    (row word _ _ (link .or12 .ensures)
-    (row word _ _ (unlink .or11 .ensures)
-    (row word _ _ (splice-in .or10 .ensures)
-    (row word _ _ (out .or9 .ensures)
-    (row word _ _ (tel .or8 .ensures)
-    (row word _ _ (time .or7 .ensures)
-    (row word _ _ (strip .or6 .ensures)
-    (row word _ _ (inv .or5 .ensures)
-    (row word _ _ (percent .or4 .ensures)
-    (row word _ _ (why .or3 .ensures)
+    row word _ _ (c .or16 .ensures)
+    (row word _ _ (remove .or15 .ensures)
+    (row word _ _ (params .or14 .ensures)
+    (row word _ _ (link .or13 .ensures)
+    (row word _ _ (unlink .or12 .ensures)
+    (row word _ _ (splice-in .or11 .ensures)
+    (row word _ _ (out .or10 .ensures)
+    (row word _ _ (tel .or9 .ensures)
+    (row word _ _ (time .or8 .ensures)
+    (row word _ _ (strip .or7 .ensures)
+    (row word _ _ (inv .or6 .ensures)
+    (row word _ _ (percent .or5 .ensures)
+    (row word _ _ (why .or4 .ensures)
+    (row word _ _ (write .or3 .ensures)
     (row word _ _ (show .or2 .ensures)
-    (row word _ _ (new .or .ensures) (new .before .before .unknown .ensures)))))))))))))))
+    (row word _ _ (new .or .ensures) (new .before .before .unknown .ensures))))))))))))))))
 
 pub of-spec : {M : Type 1} → statement M
 of-spec =
@@ -58,4 +60,4 @@ of-spec =
     (λ c κs. search needs) (λ c. search needs) (λ c κs. search needs) (λ c. search needs) (λ c κs. search needs) (λ c. search needs)
     (λ c κs. search needs) (λ c. search needs) (λ c κs. search needs) (λ c. search needs) (λ c κs. search needs) (λ c. search needs)
     (λ c κs. search needs) (λ c. search needs) (λ c κs. search needs) (λ c. search needs) (λ c κs. search needs) (λ c. search needs)
-    (λ c κs. search needs) returns)
+    (λ c κs. search needs) (λ c. search needs) (λ c κs. search needs) returns)
