@@ -3,13 +3,13 @@
    case, blinds, links, turns, each a number. Without them each call makes two
    turns in each case. */
 
-#include "panel.h"
+#include "peer.h"
 
 int printf(const char *format, ...);
 unsigned long long strtoull(const char *text, char **end, int base);
 
 enum {
-    CALLS = 15,
+    CALLS = 22,
     CASES = 5,
     FIRST_EDIT = 6,
     STRIP = 5,
@@ -19,20 +19,10 @@ enum {
     RUNNING_FOR = 540000
 };
 
-enum { AS_IT_IS, OUTSIDE, WRONG_CELLS, BAD_BLINDS, BAD_LINKS };
-
 enum { FRONT = 1, SHARED = 1000, BEFORE = 100, AFTER = 2000, END = 65535, REST = 500 };
 
 static const struct parameters asked = {
     .mudt = 600000, .sst = 200, .rpt = 500, .rwa = 1, .rra = 1, .rfa = 3
-};
-
-struct workload {
-    uint64_t call, kase, blinds, links, turns;
-};
-
-struct tally {
-    uint64_t answer, sum;
 };
 
 /* ---- The panels ------------------------------------------------------ */
@@ -86,7 +76,7 @@ static void fit(struct panel *panel, uint64_t blinds, uint64_t links, int run)
 
 /* ---- The turns ------------------------------------------------------- */
 
-static void count(struct tally *tally, struct answer answer)
+void count(struct tally *tally, struct answer answer)
 {
     tally->answer = answer.number;
     tally->sum += answer.number + answer.count;
@@ -258,8 +248,10 @@ static void run(struct workload w)
     struct panel panel = first;
     if (w.call < FIRST_EDIT)
         run_bus(&tally, &panel, w);
-    else
+    else if (w.call < FIRST_FILE)
         run_edits(&tally, &panel, w);
+    else
+        run_files(&tally, &panel, w);
     count_panel(&tally, &panel);
     printf("call %lu case %lu blinds %lu links %lu turns %lu answer %lu sum %lu\n",
            w.call, w.kase, w.blinds, w.links, w.turns, tally.answer, tally.sum);

@@ -4,5 +4,7 @@
 #define BENCH_STRING_H
 
 void *memset(void *to, int byte, __SIZE_TYPE__ count);
+int memcmp(const void *one, const void *other, __SIZE_TYPE__ count);
+__SIZE_TYPE__ strlen(const char *text);
 
 #endif

@@ -10,7 +10,7 @@ ghost use Rattle.words.specs.Words.{words};
 ghost use Rattle.arguments.specs.Arguments.{nothing, oneMore, with, heard};
 
 // The most arguments that are kept.
-const MOST: usize = 12;
+pub const MOST: usize = 12;
 
 pub struct Arguments {
     // How many there are, or one more than are kept.

@@ -1,4 +1,5 @@
 pub mod Parts
 pub mod FieldByField
+pub mod Heard
 pub mod Lines
 pub mod FieldsText

@@ -2,6 +2,8 @@
 pub mod written;
 
 use arguments::Arguments;
+use arguments::MOST;
+use decimals::Number;
 use decimals::read_plain;
 use rows::place_of;
 ghost use mathlib.Core.Path.{_≡_};
@@ -10,12 +12,14 @@ ghost use Rattle.decimals.specs.Decimals.{plainOf};
 ghost use Rattle.arguments.specs.Arguments.{nothing, heardBy};
 ghost use Rattle.fields.specs.Parts.{partsAfter};
 ghost use Rattle.fields.specs.Lines.{tab};
+ghost use Rattle.fields.specs.Heard.{noLine, allKept};
 
 pub const TAB: u8 = 9;
 
-// The numbers of a line from the tab at this place on.
+// The numbers of a line from the tab at this place on. Where a field is none, or is one more than are kept, no field after
+// it is read: no line of a file is like that, and rubbish may have a field for every byte.
 pub fn numbers_of(line: &[u8], from: usize) -> Arguments
-    ensures { λ r. ⌜ r ≡ heardBy plainOf nothing (partsAfter tab (drop from (now (line .entry)))) ⌝ }
+    ensures { λ r. ⌜ r ≡ allKept (heardBy plainOf nothing (partsAfter tab (drop from (now (line .entry))))) ⌝ }
 {
     let mut heard = Arguments::nothing();
     let mut at = from;
@@ -23,7 +27,20 @@ pub fn numbers_of(line: &[u8], from: usize) -> Arguments
         let end = place_of(TAB, line, at + 1);
         let field = read_plain(&line[at + 1..end]);
         heard = heard.with(field);
+        if !heard.numeric {
+            return no_line();
+        }
+        if MOST < heard.count {
+            return no_line();
+        }
         at = end;
     }
     heard
+}
+
+// What stands for every line that can be none of a file.
+fn no_line() -> Arguments
+    ensures { λ r. ⌜ r ≡ noLine ⌝ }
+{
+    Arguments::nothing().with(Number::Nothing)
 }

@@ -1,25 +1,17 @@
--- After a line that is taken there is a version.
+-- A line after the first leaves the version.
 -- Assumes nothing.
-use Prim.Native.Nat.{ℕ, zero, suc, _<_}
-use native.Mathlib.Omega.{arith}
-use mathlib.Core.Path.{_≡_, refl, sym, ap}
-use mathlib.Core.Bool.{Bool, true, false, cond, _&&_, true≢false}
+use Prim.Native.Nat.{ℕ, _<_}
+use mathlib.Core.Path.{_≡_, sym, ap}
+use mathlib.Core.Bool.{Bool, true, false, cond, _&&_}
 use mathlib.Core.List.{List}
 use mathlib.Core.Option.{Option, none, some, Option·some-injective, Option·none-ne-some}
 use lib.ListN.{length, getD}
-use lib.Dec.{eqb, ltb, leb}
-use borrow.Author.Tests.{ltb-true}
-use Rattle.laws.proofs.Choices.{both-right}
+use lib.Dec.{eqb, leb}
+use borrow.Author.Tests.{lt-ltb}
 use Rattle.texts.specs.Text.{text, same}
 use Rattle.fields.specs.Lines.{Line, lineOf}
-use Rattle.plant.specs.Read.{Plan, isBegun, blindSize, begun, installed, withBlind, linkIn, linked, isAbove, withLink, opened, further, ifThere, taken, bytesTaken}
+use Rattle.plant.specs.Read.{Plan, blindSize, installed, withBlind, linkIn, linked, isAbove, withLink, opened, further, ifThere, taken, bytesTaken}
 use Rattle.plant.proofs.Rows.{chosen}
-
--- what is a version is not 0
-version-above : (n : ℕ) → ltb 0 (blindSize n) ≡ true → 0 < n
-unfolding blindSize
-version-above zero e = absurd (true≢false (sym e))
-version-above (suc n) e = omega arith
 
 -- a plan that is chosen is the next one
 is-next : (t : Bool) (next : Plan) {q : Plan} → cond t (some next) none ≡ some q → (t ≡ true) × (next .version ≡ q .version)
@@ -28,12 +20,6 @@ is-next t next {q} e = let c = chosen t (some next) e in (c .0, ap (λ (n : Plan
 module _ (p q : Plan) (l : Line) where
   abbrev ns : List ℕ
   ns = l .numbers
-
-  first-begun : opened p l ≡ some q → 0 < q .version
-  unfolding opened begun
-  first-begun e =
-      let next = is-next (eqb (length ns) 1 && ltb 0 (blindSize (getD ns 0 0))) _ (chosen (same (l .word) (text "plant")) _ e .1) in
-      omega (arith, next .1, version-above (getD ns 0 0) (both-right (eqb (length ns) 1) _ (next .0)))
 
   blind-version : withBlind p ns ≡ some q → p .version ≡ q .version
   unfolding withBlind
@@ -55,18 +41,15 @@ module _ (p q : Plan) (l : Line) where
       go false true e = link-version e
       go false false e = absurd (Option·none-ne-some q e)
 
-  taken-begun : taken p l ≡ some q → 0 < q .version
-  unfolding taken
-  taken-begun = go (isBegun p) refl
-    where
-      go : (t : Bool) → isBegun p ≡ t → cond t (further p l) (opened p l) ≡ some q → 0 < q .version
-      go true on e = omega (arith, further-version e, ltb-true 0 (p .version) on)
-      go false on e = first-begun e
-
-pub bytes-begun : (p q : Plan) (bytes : List ℕ) → bytesTaken p bytes ≡ some q → 0 < q .version
-unfolding bytesTaken
-bytes-begun p q bytes = go (lineOf bytes)
+pub same-version : (p q : Plan) (bytes : List ℕ) → ifThere (lineOf bytes) none (further p) ≡ some q → p .version ≡ q .version
+same-version p q bytes = go (lineOf bytes)
   where
-    go : (o : Option Line) → ifThere o none (taken p) ≡ some q → 0 < q .version
+    go : (o : Option Line) → ifThere o none (further p) ≡ some q → p .version ≡ q .version
     go none e = absurd (Option·none-ne-some q e)
-    go (some l) e = taken-begun p q l e
+    go (some l) e = further-version p q l e
+
+-- a line after the first
+pub begun-taken : (p : Plan) (bytes : List ℕ) → 0 < p .version → ifThere (lineOf bytes) none (further p) ≡ bytesTaken p bytes
+unfolding bytesTaken taken
+begun-taken p bytes h =
+    sym (ap (λ (t : Bool). ifThere (lineOf bytes) none (λ l. cond t (further p l) (opened p l))) (lt-ltb 0 (p .version) h))

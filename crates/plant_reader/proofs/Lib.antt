@@ -4,3 +4,4 @@ pub mod Taken
 pub mod Said
 pub mod Begun
 pub mod Walked
+pub mod FirstLine

@@ -1,25 +1,29 @@
 -- What a line says, from what is kept of it: all its numbers, or only that there are more than any line has.
 -- Assumes nothing.
-use Prim.Native.Nat.{ℕ, zero, suc, _+_, _<_, _≤_, min}
+use Prim.Native.Nat.{ℕ, zero, suc, _+_, _<_, _≤_}
 use native.Mathlib.Omega.{arith}
 use mathlib.Core.Path.{_≡_, refl, sym, ap, ap₂, _∙_}
 use mathlib.Core.Bool.{Bool, true, false, cond, _&&_}
 use mathlib.Core.List.{List}
 use mathlib.Core.Option.{Option, none}
-use mathlib.Core.Logic.{_⊎_, inl, inr, ⊎-elim}
-use lib.ListN.{length, getD, take}
+use lib.ListN.{length, take, drop}
 use lib.Dec.{eqb}
-use borrow.Author.Tests.{ne-eqb, lt-ltb, le-ltb}
-use Rattle.laws.proofs.Choices.{below-or}
+use borrow.Author.Tests.{ne-eqb}
+use Rattle.laws.proofs.Choices.{never-both}
+use Rattle.rows.specs.Lines.{until}
+use Rattle.decimals.specs.Decimals.{plainOf}
 use Rattle.params.specs.Numbers.{setSize}
 use Rattle.arguments.specs.declared.Arguments.{Arguments}
-use Rattle.arguments.specs.Arguments.{most, valueAt}
+use Rattle.arguments.specs.Arguments.{most, nothing, heardBy}
 use Rattle.texts.specs.Text.{text, same}
-use Rattle.fields.specs.Lines.{Line, line}
-use Rattle.fields.proofs.Lines.{LineRead, numbersFrom}
-use Rattle.plant.specs.Read.{Plan, blindSize, begun, withBlind, withLink, opened, further, ifThere, taken, bytesTaken}
+use Rattle.fields.specs.Parts.{partsAfter}
+use Rattle.fields.specs.Lines.{Line, line, tab, lineOf}
+use Rattle.fields.specs.Heard.{allKept}
+use Rattle.fields.proofs.Lines.{LineRead, line-read, numbersFrom}
+use Rattle.fields.proofs.Heard.{kept-or-lost}
+use Rattle.plant.specs.Read.{Plan, blindSize, begun, withBlind, withLink, opened, further, ifThere}
 use Rattle.plant_reader.specs.Reader.{numbersIn}
-use Rattle.plant_reader.proofs.Numbers.{numbers-length, numbers-kept}
+use Rattle.plant_reader.proofs.Numbers.{numbers-kept}
 
 -- ---- versions
 
@@ -40,6 +44,10 @@ size-low (suc (suc version)) = omega arith
 unlike : (n size : ℕ) (u : Bool) (x : Option Plan) → size < n → cond (eqb n size && u) x none ≡ none
 unlike n size u x h = ap (λ (t : Bool). cond (t && u) x none) (ne-eqb n size (λ e. absurd (omega (arith, e, h))))
 
+either : (t : Bool) → _≡_ {A = Option Plan} (cond t none none) none
+either true = refl
+either false = refl
+
 module _ (p : Plan) (ns : List ℕ) (long : most < length ns) where
   begun-long : begun p ns ≡ none
   unfolding begun
@@ -53,60 +61,50 @@ module _ (p : Plan) (ns : List ℕ) (long : most < length ns) where
   unfolding withLink
   link-long = unlike (length ns) 3 _ _ (omega (arith, long))
 
--- ---- the numbers that are kept say the same
-
-module _ (a : Arguments) (ns : List ℕ) (count : a .count ≡ min (length ns) (most + 1))
-    (values : length ns ≤ most → (place : ℕ) → valueAt a place ≡ getD ns place 0) where
-  kept-or-long : (numbersIn a ≡ ns) ⊎ ((most < length (numbersIn a)) × (most < length ns))
-  kept-or-long =
-      below-or most (length ns)
-      (λ long. inr (omega (arith, long, count, numbers-length a), long))
-      (λ short. inl (numbers-kept a ns (omega (arith, count, short)) (values short)))
-
-  module _ (p : Plan) (word : List ℕ) where
-    pub opened-same : opened p (line word (numbersIn a)) ≡ opened p (line word ns)
+  module _ (word : List ℕ) where
+    pub opened-long : opened p (line word ns) ≡ none
     unfolding opened
-    opened-same =
-        ⊎-elim (λ e. ap (λ (l : List ℕ). opened p (line word l)) e)
-        (λ long. ap (λ (o : Option Plan). cond (same word (text "plant")) o none) (begun-long p (numbersIn a) (long .0) ∙ sym (begun-long p ns (long .1))))
-        kept-or-long
+    opened-long = ap (λ (o : Option Plan). cond (same word (text "plant")) o none) begun-long ∙ either (same word (text "plant"))
 
-    pub further-same : further p (line word (numbersIn a)) ≡ further p (line word ns)
+    pub further-long : further p (line word ns) ≡ none
     unfolding further
-    further-same =
-        ⊎-elim (λ e. ap (λ (l : List ℕ). further p (line word l)) e)
-        (λ long. ap₂ (λ (o q : Option Plan). cond (same word (text "blind")) o (cond (same word (text "link")) q none))
-        (blind-long p (numbersIn a) (long .0) ∙ sym (blind-long p ns (long .1)))
-        (link-long p (numbersIn a) (long .0) ∙ sym (link-long p ns (long .1))))
-        kept-or-long
+    further-long =
+        ap₂ (λ (o q : Option Plan). cond (same word (text "blind")) o (cond (same word (text "link")) q none)) blind-long link-long
+        ∙ ap (cond (same word (text "blind")) none) (either (same word (text "link")))
+        ∙ either (same word (text "blind"))
 
 -- ---- a line as it is read
 
-module _ (p : Plan) (bytes : List ℕ) (end : ℕ) (a : Arguments) (read : LineRead bytes end a) where
-  pub form-refused : a .numeric ≡ false → none ≡ bytesTaken p bytes
-  unfolding bytesTaken
-  form-refused e = ap (λ (o : Option Line). ifThere o none (taken p)) (sym (read .refused e))
+-- What is heard of a line is all its fields, if it can be a line at all. A line is taken in some way, and with more numbers than
+-- any has it is not.
+module _ (takes : Line → Option Plan) (long-not : (word ns : List ℕ) → most < length ns → takes (line word ns) ≡ none)
+    (bytes : List ℕ) (end : ℕ) (a : Arguments) (ends : end ≡ until tab bytes)
+    (heard : a ≡ allKept (heardBy plainOf nothing (partsAfter tab (drop end bytes)))) where
+  abbrev all : Arguments
+  all = heardBy plainOf nothing (partsAfter tab (drop end bytes))
 
-  module _ (numeric : a .numeric ≡ true) where
-    said : bytesTaken p bytes ≡ taken p (line (take end bytes) (numbersFrom end bytes))
-    unfolding bytesTaken
-    said = ap (λ (o : Option Line). ifThere o none (taken p)) (read .said numeric)
+  abbrev word : List ℕ
+  word = take end bytes
 
-    pub first-taken : p .version ≡ 0 → opened p (line (take end bytes) (numbersIn a)) ≡ bytesTaken p bytes
-    unfolding taken
-    first-taken none-yet =
-        opened-same a (numbersFrom end bytes) (read .count) (read .values numeric) p (take end bytes)
-        ∙ sym (ap (λ (t : Bool). cond t (further p (line (take end bytes) (numbersFrom end bytes))) (opened p (line (take end bytes) (numbersFrom end bytes))))
-        (le-ltb 0 (p .version) (omega (arith, none-yet))))
-        ∙ sym said
+  read : LineRead bytes end all
+  read = line-read bytes end all ends refl
 
-    pub next-taken : (p .version ≡ 0 → ⊥) → further p (line (take end bytes) (numbersIn a)) ≡ bytesTaken p bytes
-    unfolding taken
-    next-taken other =
-        further-same a (numbersFrom end bytes) (read .count) (read .values numeric) p (take end bytes)
-        ∙ sym (ap (λ (t : Bool). cond t (further p (line (take end bytes) (numbersFrom end bytes))) (opened p (line (take end bytes) (numbersFrom end bytes))))
-        (lt-ltb 0 (p .version) (positive (p .version) other)))
-        ∙ sym said
-      where
-        positive : (n : ℕ) → (n ≡ 0 → ⊥) → 0 < n
-        positive n h = omega (arith, h)
+  said : all .numeric ≡ true → ifThere (lineOf bytes) none takes ≡ takes (line word (numbersFrom end bytes))
+  said numeric = ap (λ (o : Option Line). ifThere o none takes) (read .said numeric)
+
+  pub form-refused : a .numeric ≡ false → none ≡ ifThere (lineOf bytes) none takes
+  form-refused e =
+      kept-or-lost all a heard (λ numeric is few. never-both (a .numeric) numeric e)
+      (λ lost other. ap (λ (o : Option Line). ifThere o none takes) (sym (read .refused other)))
+      (λ lost numeric many. sym (said numeric ∙ long-not word (numbersFrom end bytes) (omega (arith, many, read .count))))
+
+  pub line-taken : a .numeric ≡ true → takes (line word (numbersIn a)) ≡ ifThere (lineOf bytes) none takes
+  line-taken numeric =
+      kept-or-lost all a heard
+      (λ same is few.
+      let whole : LineRead bytes end a = line-read bytes end a ends is in
+      let few-heard : a .count ≤ most = omega (arith, few, ap (λ (b : Arguments). b .count) is) in
+      ap (λ (ns : List ℕ). takes (line word ns))
+      (numbers-kept a (numbersFrom end bytes) (omega (arith, few-heard, whole .count)) (whole .values numeric (omega (arith, few-heard, whole .count))))
+      ∙ sym (said (sym (ap (λ (b : Arguments). b .numeric) is) ∙ numeric)))
+      (λ lost other. never-both (a .numeric) numeric lost) (λ lost form many. never-both (a .numeric) numeric lost)

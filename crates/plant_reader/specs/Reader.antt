@@ -4,10 +4,11 @@ use Prim.Native.Nat.{ℕ, _+_}
 use mathlib.Core.Bool.{cond}
 use mathlib.Core.List.{List}
 use mathlib.Core.Option.{Option, none, some}
+use lib.Dec.{ltb}
 use Rattle.laws.specs.Fills.{tabulate}
 use Rattle.params.specs.declared.Asked.{Asked}
 use Rattle.params.specs.Numbers.{setSize, askedOf}
-use Rattle.panel.specs.Panel.{modelOf}
+use Rattle.panel.specs.Panel.{modelOf, bare}
 use Rattle.arguments.specs.declared.Arguments.{Arguments}
 use Rattle.arguments.specs.Arguments.{valueAt}
 use Rattle.plant.specs.Read.{Plan}
@@ -23,6 +24,13 @@ readOf r = record { line = r .line; panel = modelOf (r .panel) }
 -- What the lines so far say.
 abbrev pub planOf : Draft → Plan
 planOf d = record { model = modelOf (d .panel); floor = d .floor; version = d .version }
+
+-- After a first line with this version; a line that is bad has 0.
+abbrev pub begunWith : ℕ → Plan
+begunWith version = record { model = bare; floor = 0; version = version }
+
+abbrev pub begunIf : ℕ → Option Plan
+begunIf version = cond (ltb 0 version) (some (begunWith version)) none
 
 -- The same with a line more, if that was good.
 abbrev pub takenOf : Taken → Option Plan

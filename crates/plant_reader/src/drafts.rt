@@ -12,11 +12,11 @@ use wiring::add_link;
 use words::is_same;
 ghost use mathlib.Core.Path.{_≡_};
 ghost use mathlib.Core.Option.{none};
-ghost use Rattle.fields.specs.Lines.{line as ofLines·line};
-ghost use Rattle.plant.specs.Read.{start as ofRead·start, blindSize, begun as ofRead·begun, withBlind, withLink, opened as ofRead·opened, further as ofRead·further, bytesTaken};
-ghost use Rattle.plant_reader.specs.Reader.{planOf, takenOf, numbersIn, setIn};
+ghost use Rattle.fields.specs.Lines.{line as ofLines·line, lineOf};
+ghost use Rattle.plant.specs.Read.{blindSize, withBlind, withLink, further as ofRead·further, ifThere};
+ghost use Rattle.plant_reader.specs.Reader.{planOf, begunWith, takenOf, numbersIn, setIn};
 
-// The panel, the lowest tag that a further blind line may have, and the version, 0 before the first line.
+// The panel, the lowest tag that a further blind line may have, and the version.
 pub(crate) struct Draft {
     pub panel: Panel,
     pub floor: u64,
@@ -36,32 +36,28 @@ const HEAD: usize = 2;
 const LINK: usize = 3;
 
 impl Draft {
-    // Before the first line.
-    pub(crate) fn start() -> Draft
-        ensures { λ r. ⌜ planOf r ≡ ofRead·start ⌝ }
+    // After a first line with this version.
+    pub(crate) fn start(version: u64) -> Draft
+        ensures { λ r. ⌜ planOf r ≡ begunWith version ⌝ }
     {
         let panel = Panel::empty();
         Draft {
             panel,
             floor: 0,
-            version: 0,
+            version,
         }
     }
 
-    // One line more, given without its line feed.
+    // One line more after the first, given without its line feed.
     pub(crate) fn with(self, line: &[u8]) -> Taken
-        ensures { λ r. ⌜ takenOf r ≡ bytesTaken (planOf self) (now (line .entry)) ⌝ }
+        ensures { λ r. ⌜ takenOf r ≡ ifThere (lineOf (now (line .entry))) none (ofRead·further (planOf self)) ⌝ }
     {
         let end = place_of(TAB, line, 0);
         let numbers = numbers_of(line, end);
         if !numbers.numeric {
             return self.refused();
         }
-        if self.version == 0 {
-            self.opened(&line[..end], numbers)
-        } else {
-            self.further(&line[..end], numbers)
-        }
+        self.further(&line[..end], numbers)
     }
 
     fn refused(self) -> Taken
@@ -73,32 +69,7 @@ impl Draft {
         }
     }
 
-    // The first line.
-    fn opened(self, word: &[u8], numbers: Arguments) -> Taken
-        ensures { λ r. ⌜ takenOf r ≡ ofRead·opened (planOf self) (ofLines·line (now (word .entry)) (numbersIn numbers)) ⌝ }
-    {
-        if is_same(word, b"plant") {
-            self.begun(numbers)
-        } else {
-            self.refused()
-        }
-    }
-
-    fn begun(self, numbers: Arguments) -> Taken
-        ensures { λ r. ⌜ takenOf r ≡ ofRead·begun (planOf self) (numbersIn numbers) ⌝ }
-    {
-        let version = numbers.values[0];
-        if numbers.count != 1 {
-            return self.refused();
-        }
-        if blind_size(version) == 0 {
-            return self.refused();
-        }
-        let draft = Draft { version, ..self };
-        Taken { good: true, draft }
-    }
-
-    // A line after the first.
+    // By its word.
     fn further(self, word: &[u8], numbers: Arguments) -> Taken
         ensures { λ r. ⌜ takenOf r ≡ ofRead·further (planOf self) (ofLines·line (now (word .entry)) (numbersIn numbers)) ⌝ }
     {
@@ -165,7 +136,7 @@ impl Draft {
 }
 
 // How many numbers a blind line has in a version; 0 where there is no such version.
-fn blind_size(version: u64) -> usize
+pub(crate) fn blind_size(version: u64) -> usize
     ensures { λ r. ⌜ r ≡ blindSize version ⌝ }
 {
     match version {

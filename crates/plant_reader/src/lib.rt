@@ -1,8 +1,10 @@
 // Document 02, K3, the reader: the panel of a plant file, any bytes of any length, line by line. A line that is bad beside
 // the lines before ends it, and then nothing is left of what was read.
 mod drafts;
+mod first_line;
 
 use crate::drafts::Draft;
+use crate::first_line::version_of;
 use panel::Panel;
 use rows::line_end;
 ghost use mathlib.Core.Path.{_≡_};
@@ -18,9 +20,17 @@ pub struct FileRead {
 pub fn read(file: &[u8]) -> FileRead
     ensures { λ r. ⌜ readOf r ≡ fileRead (now (file .entry)) ⌝ }
 {
-    let mut draft = Draft::start();
-    let mut lines = 0;
-    let mut at = 0;
+    let first = line_end(file, 0);
+    if file.len() <= first {
+        return bad_in(1);
+    }
+    let version = version_of(&file[..first]);
+    if version == 0 {
+        return bad_in(1);
+    }
+    let mut draft = Draft::start(version);
+    let mut lines = 1;
+    let mut at = first + 1;
     while at < file.len() {
         let end = line_end(file, at);
         if file.len() <= end {
@@ -33,9 +43,6 @@ pub fn read(file: &[u8]) -> FileRead
         draft = next.draft;
         lines += 1;
         at = end + 1;
-    }
-    if draft.version == 0 {
-        return bad_in(1);
     }
     let panel = draft.panel;
     FileRead { line: 0, panel }

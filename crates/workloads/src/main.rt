@@ -3,6 +3,7 @@
 // call makes two turns in each case.
 mod bus_turns;
 mod edit_turns;
+mod file_turns;
 mod lines;
 mod lookups;
 mod panels;
@@ -13,7 +14,7 @@ use lines::write_line;
 use workload::Workload;
 
 // How many calls there are, and how many cases.
-const CALLS: u64 = 15;
+const CALLS: u64 = 22;
 
 const CASES: u64 = 5;
 

@@ -1,7 +1,8 @@
-// One workload: a call, the case in which it is made, the panel's size and how many turns. A call is one of 15 numbers:
+// One workload: a call, the case in which it is made, the panel's size and how many turns. A call is one of 22 numbers:
 // time steps of 1, 1,000 and 60,000 ms; telegrams to one link and to the shared ones; strip reading; inventory; links
 // added and removed at the front; splices in and out; install; remove blind; write parameters; a blind removed and
-// installed; links added and removed at the end; the search in the link table, which is never refused.
+// installed; links added and removed at the end; the search in the link table, which is never refused; the panel's plant
+// file written, read, and read with the rest of its buffer; rubbish read in four forms.
 use crate::bus_turns::strips;
 use crate::bus_turns::telegrams;
 use crate::bus_turns::time_steps;
@@ -12,6 +13,9 @@ use crate::edit_turns::removals;
 use crate::edit_turns::splicings;
 use crate::edit_turns::wirings;
 use crate::edit_turns::writes;
+use crate::file_turns::file_readings;
+use crate::file_turns::fill;
+use crate::file_turns::writings;
 use crate::lookups::lookups;
 use crate::panels::END;
 use crate::panels::FRONT;
@@ -19,7 +23,11 @@ use crate::panels::SHARED;
 use crate::panels::alone;
 use crate::panels::fitted;
 use crate::tally::Tally;
+use fields::TAB;
 use panel::Panel;
+use plant::ROOM;
+use plant_writer::write;
+use rows::least;
 use std::num::wrapping_sub_u64;
 
 // Calls before this one find the blinds running, the others find them at rest.
@@ -35,6 +43,21 @@ const STRIP: u64 = 5;
 const FRONT_WIRING: u64 = 7;
 
 const END_WIRING: u64 = 13;
+
+// The calls that write a file, read it, and read it with all that follows it in its buffer.
+const WRITING: u64 = 15;
+
+const READING: u64 = 16;
+
+// The calls from here on read rubbish: lines of one byte that are no lines of a file, one line without a tab, one line
+// of tabs and one of numbers.
+const SHORT_LINES: u64 = 18;
+
+const LONG_LINE: u64 = 19;
+
+const TABS: u64 = 20;
+
+const NUMBERS: u64 = 21;
 
 // The cases: done; refused with 1; with 11; with 12, for the blinds and for the links.
 const OUTSIDE: u64 = 1;
@@ -61,8 +84,10 @@ impl Workload {
         let panel = self.panel();
         if self.call < FIRST_EDIT {
             self.run_bus(panel)
-        } else {
+        } else if self.call < WRITING {
             self.run_edits(panel)
+        } else {
+            self.run_files(panel)
         }
     }
 
@@ -148,6 +173,48 @@ impl Workload {
             END_WIRING => wirings(panel, self.or_outside(END, 0), turns),
             _ => lookups(panel, self.blinds, self.links, turns),
         }
+    }
+
+    // One byte less than a file needs is lent, where a writing is to be refused for that.
+    fn run_files(self, panel: Panel) -> Tally {
+        let mut file = [0u8; ROOM];
+        if self.call == WRITING {
+            if self.case == WRONG_CELLS {
+                writings(panel, self.turns, &mut file[..ROOM - 1])
+            } else {
+                writings(panel, self.turns, &mut file)
+            }
+        } else if self.call < SHORT_LINES {
+            self.run_readings(panel, &mut file)
+        } else {
+            self.run_rubbish(&mut file)
+        }
+    }
+
+    fn run_readings(self, panel: Panel, file: &mut [u8]) -> Tally {
+        let written = write(panel, file);
+        if self.call == READING {
+            let length = least(written.length, file.len());
+            file_readings(&file[..length], self.turns)
+        } else {
+            file_readings(file, self.turns)
+        }
+    }
+
+    fn run_rubbish(self, file: &mut [u8]) -> Tally {
+        let call = self.call;
+        let even = match call {
+            TABS => TAB,
+            NUMBERS => b'1',
+            _ => b'x',
+        };
+        let odd = match call {
+            SHORT_LINES => b'\n',
+            LONG_LINE => b'x',
+            _ => TAB,
+        };
+        fill(file, even, odd);
+        file_readings(file, self.turns)
     }
 
     fn or_outside(self, argument: u64, outside: u64) -> u64 {

@@ -8,7 +8,7 @@ use Rattle.plant_reader.proofs.drafts.Draft.start.Statement.{statement}
 use Rattle.plant_reader.proofs.drafts.Draft.start.Tie as tie
 
 returns : tie.Need-returns
-returns c = ap {B = Plan} (λ (m : Model). record { model = m; floor = 0; version = 0 }) (c .empty .ensures)
+returns c = ap {B = Plan} (λ (m : Model). record { model = m; floor = 0; version = c .before .args .version }) (c .empty .ensures)
 
 pub start-spec : {M : Type 1} → statement M
 start-spec = tie.close (tie.spec (λ c κs. search needs) returns)
