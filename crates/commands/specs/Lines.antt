@@ -17,7 +17,7 @@ use Rattle.names.specs.declared.Name.{Name}
 use Rattle.names.specs.declared.Entry.{Entry}
 use Rattle.names.specs.Names.{entryOf, takes}
 use Rattle.file_word.specs.FileWord.{isFile}
-use Rattle.plant.specs.Written.{room}
+use Rattle.fields.specs.Room.{room}
 use Rattle.commands.specs.declared.Command.{Command}
 use Rattle.commands.specs.declared.Edit.{Edit}
 use Rattle.commands.specs.declared.Fault.{Fault}

@@ -28,7 +28,8 @@ use Rattle.texts.specs.Text.{text}
 use Rattle.texts.specs.Sheet.{Sheet, sheet, puts, joined}
 use Rattle.decimals.specs.Decimals.{decimal}
 use Rattle.file_word.specs.FileWord.{packed}
-use Rattle.plant.specs.Written.{room, fileRule}
+use Rattle.fields.specs.Room.{room}
+use Rattle.plant.specs.Written.{fileRule}
 use Rattle.commands.specs.declared.Command.{Command}
 use Rattle.commands.specs.declared.Edit.{Edit}
 use Rattle.shows.specs.Numbers.{spaced, counted}

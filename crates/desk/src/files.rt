@@ -1,7 +1,7 @@
 // The answer to `write`: the numbers, and the file in one word.
 use answers::DONE;
+use fields::ROOM;
 use file_word::put_packed;
-use plant::ROOM;
 use plant_writer::Written;
 use rows::least;
 use shows::numbers::put_counted;
@@ -9,7 +9,7 @@ use texts::put_text;
 ghost use Prim.Native.Nat.{min};
 ghost use mathlib.Core.Path.{_≡_};
 ghost use lib.ListN.{replicate};
-ghost use Rattle.plant.specs.Written.{room};
+ghost use Rattle.fields.specs.Room.{room};
 ghost use Rattle.texts.specs.Sheet.{sheet, puts};
 ghost use Rattle.desk.specs.Desk.{fileText};
 

@@ -1,11 +1,12 @@
 -- Parting a row and putting parts between marks undo each other, where no part holds the mark. All by recursion on the row or the parts.
 -- Assumes nothing.
-use Prim.Native.Nat.{ℕ, zero, suc}
+use Prim.Native.Nat.{ℕ, zero, suc, _+_}
+use native.Mathlib.Omega.{arith}
 use mathlib.Core.Path.{_≡_, refl, sym, ap, _∙_}
 use mathlib.Core.Bool.{Bool, true, false, cond, not}
 use mathlib.Core.List.{List, [], _∷_, _++_, map, append-nil}
-use lib.ListN.{take, drop}
-use lib.Seq.{append-snoc}
+use lib.ListN.{length, take, drop}
+use lib.Seq.{append-snoc, length-take-le}
 use lib.Dec.{eqb}
 use borrow.Author.Tests.{eq-eqb, eqb-true, not-true}
 use Rattle.laws.specs.Every.{every}
@@ -14,7 +15,16 @@ use Rattle.laws.proofs.Each.{Each, first, rest}
 use Rattle.texts.specs.Sheet.{joined}
 use Rattle.words.specs.Words.{front, ahead}
 use Rattle.rows.specs.Lines.{until}
+use Rattle.rows.proofs.NextLine.{place-within}
 use Rattle.fields.specs.Parts.{parts, partsAfter, between}
+
+-- the first mark of a row stands here, and so many bytes before it
+pub record FirstMark (mark : ℕ) (s : List ℕ) (end : ℕ) : Type 0 where
+  pub place : end ≡ until mark s
+  pub before : end ≡ length (take end s)
+
+pub first-mark : (mark : ℕ) (s : List ℕ) (end : ℕ) → end ≡ 0 + until mark (drop 0 s) → FirstMark mark s end
+first-mark mark s end e = record { place = omega (arith, e); before = sym (length-take-le end s (place-within mark s 0 end (omega arith) e)) }
 
 -- a row of bytes without the mark
 abbrev pub Clean : ℕ → List ℕ → Type 0

@@ -1,3 +1,4 @@
+pub mod Room
 pub mod Parts
 pub mod Lines
 pub mod Heard

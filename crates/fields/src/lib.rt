@@ -16,6 +16,9 @@ ghost use Rattle.fields.specs.Heard.{noLine, allKept};
 
 pub const TAB: u8 = 9;
 
+// The least buffer that is lent for a file, and so the longest file.
+pub const ROOM: usize = 16_384;
+
 // The numbers of a line from the tab at this place on. Where a field is none, or is one more than are kept, no field after
 // it is read: no line of a file is like that, and rubbish may have a field for every byte.
 pub fn numbers_of(line: &[u8], from: usize) -> Arguments

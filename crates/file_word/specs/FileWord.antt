@@ -33,7 +33,7 @@ unfoldable pub isHex : ℕ → Bool
 isHex byte =
     isWithin (letter "0") byte (letter "9") || isWithin (letter "A") byte (letter "F") || isWithin (letter "a") byte (letter "f")
 
--- The value of a digit: 0 is the byte 48, A is 65 and a is 97.
+-- The value of a digit: 0 is the byte 48, which is 3 · 16; A is 65, which is 4 · 16 + 1; and a is 97, which is 6 · 16 + 1.
 unfoldable pub hexOf : ℕ → ℕ
 hexOf byte = cond (leb byte (letter "9")) (byte % 16) ((byte % 16 + 9) % 16)
 

@@ -7,7 +7,8 @@ use Rattle.panel.specs.Panel.{Model}
 use Rattle.panel.specs.Sound.{Tagged}
 use Rattle.panel.specs.Calls.{Cells}
 use Rattle.panel.proofs.Exact.{unsound-decides}
-use Rattle.plant.specs.Written.{room, fileRule}
+use Rattle.fields.specs.Room.{room}
+use Rattle.plant.specs.Written.{fileRule}
 use Rattle.plant.specs.Claims.{fileCases}
 
 pub file-told : (m : Model) (buffer : Cells) → Tagged m → Told (fileRule .checks m buffer) (fileCases m buffer)

@@ -18,7 +18,8 @@ use Rattle.texts.specs.Text.{text}
 use Rattle.texts.specs.Sheet.{joined}
 use Rattle.fields.specs.Lines.{Line, fieldsText, lineText}
 use Rattle.fields.proofs.FieldsText.{lines-append, field-length, line-length}
-use Rattle.plant.specs.Written.{firstLine, blindLine, linkLine, seatLines, blindLines, linkLines, plantLines, plantText, room}
+use Rattle.fields.specs.Room.{room}
+use Rattle.plant.specs.Written.{firstLine, blindLine, linkLine, seatLines, blindLines, linkLines, plantLines, plantText}
 use Rattle.plant.proofs.WrittenNumbers.{ShortBlind, ShortLink, blind-short, links-short}
 
 -- the bytes of lines

@@ -14,7 +14,8 @@ use Rattle.fields.specs.Parts.{parts, between}
 use Rattle.fields.specs.Lines.{Line, lineFeed, lineBytes, lineText, lineOf}
 use Rattle.fields.proofs.Parts.{Clean, parts-back, parts-ended, ended-parts}
 use Rattle.fields.proofs.Lines.{line-sound, line-complete, line-clean}
-use Rattle.plant.specs.Written.{plantLines, plantText, room}
+use Rattle.fields.specs.Room.{room}
+use Rattle.plant.specs.Written.{plantLines, plantText}
 use Rattle.plant.specs.Read.{Plan, start, isBegun, ifThere, taken, bytesTaken, goodFile, badIn, walked, fileRead}
 use Rattle.plant.specs.Claims.{rewired}
 use Rattle.plant.proofs.Walk.{AllGood, walk-on}

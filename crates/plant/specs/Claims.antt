@@ -15,7 +15,7 @@ use Rattle.installs.specs.Installs.{freshSeat}
 use Rattle.texts.specs.Text.{text, same}
 use Rattle.fields.specs.Parts.{parts}
 use Rattle.fields.specs.Lines.{Line, lineFeed, lineOf}
-use Rattle.plant.specs.Written.{room}
+use Rattle.fields.specs.Room.{room}
 use Rattle.plant.specs.Read.{Plan, start, isBegun, ifThere, bytesTaken, linkIn}
 
 -- The numbers that the writer can answer, and for each of them its case. A case is met only if none above it is.

@@ -12,6 +12,7 @@ use Rattle.panel.specs.Panel.{Seat, Model}
 use Rattle.panel.specs.Calls.{row, unsound, CallRule}
 use Rattle.texts.specs.Text.{text}
 use Rattle.texts.specs.Sheet.{joined}
+use Rattle.fields.specs.Room.{room}
 use Rattle.fields.specs.Lines.{Line, line, lineText}
 
 -- The versions of a plant file: how many numbers a blind line has in each. Version 0 is none.
@@ -54,10 +55,6 @@ plantLines m = firstLine ∷ blindLines places m ++ linkLines m
 
 unfoldable pub plantText : Model → List ℕ
 plantText m = joined (map lineText (plantLines m))
-
--- "A lent buffer of at least 16,384 bytes".
-abbrev pub room : ℕ
-room = 16384
 
 -- "The writer fills a lent buffer of at least 16,384 bytes, answers the length and leaves the rest; a shorter buffer is answered 13
 -- (new, checked with 11) and an unsound panel 12."

@@ -36,7 +36,7 @@ begunIf version = cond (ltb 0 version) (some (begunWith version)) none
 abbrev pub takenOf : Taken → Option Plan
 takenOf t = cond (t .good) (some (planOf (t .draft))) none
 
--- The numbers that were read of a line; of more than are kept, only that they are more.
+-- The numbers that were read of a line.
 unfoldable pub numbersIn : Arguments → List ℕ
 numbersIn a = tabulate (a .count) (valueAt a)
 

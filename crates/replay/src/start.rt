@@ -1,9 +1,9 @@
 // The panel that the commands start with: empty, or that of the plant file that the program was started with.
 use decimals::put_number;
+use fields::ROOM;
 use intake::fetch_all;
 use libc::STDERR_FILENO;
 use panel::Panel;
-use plant::ROOM;
 use plant_reader::read;
 use rows::least;
 use texts::put_text;

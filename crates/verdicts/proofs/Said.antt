@@ -6,7 +6,7 @@ use mathlib.Core.Bool.{Bool, cond}
 use mathlib.Core.List.{List}
 use lib.ListN.{length}
 use borrow.Author.Tests.{eq-eqb, ne-eqb, lt-ltb, le-ltb}
-use Rattle.plant.specs.Written.{room}
+use Rattle.fields.specs.Room.{room}
 use Rattle.plant.specs.Read.{FileRead, fileRead}
 use Rattle.verdicts.specs.Verdicts.{good, bad, tooLong, verdictOn, verdict}
 

@@ -9,7 +9,7 @@ use Rattle.tags.specs.Tags.{places, howMany}
 use Rattle.panel.specs.Panel.{Model, presentIn}
 use Rattle.texts.specs.Text.{text}
 use Rattle.fields.specs.Lines.{Line, line}
-use Rattle.plant.specs.Written.{room}
+use Rattle.fields.specs.Room.{room}
 use Rattle.plant.specs.Read.{FileRead, fileRead}
 
 -- `ok`, the number of blinds, the number of links.

@@ -1,6 +1,6 @@
 // What is said of a plant file in one line, without a panel at hand: that it is good and what it holds, or where it is bad.
+use fields::ROOM;
 use fields::written::put_line;
-use plant::ROOM;
 use plant_reader::read;
 use texts::put_text;
 ghost use mathlib.Core.Path.{_≡_};

@@ -11,7 +11,8 @@ use Rattle.answers.specs.Rules.{carried}
 use Rattle.panel.specs.Panel.{modelOf}
 use Rattle.panel.specs.Calls.{row}
 use Rattle.texts.specs.Sheet.{Sheet, sheet, puts}
-use Rattle.plant.specs.Written.{room, fileRule}
+use Rattle.fields.specs.Room.{room}
+use Rattle.plant.specs.Written.{fileRule}
 use Rattle.desk.specs.Desk.{Desk, fileText, carriedOut}
 use Rattle.desk.proofs.Desks.{with-file}
 use Rattle.desk.proofs.Lent.{zeros-lent, part-back, still-within, part-size}

@@ -14,7 +14,8 @@ use Rattle.panel.specs.Panel.{modelOf}
 use Rattle.panel.specs.Sound.{isSound}
 use Rattle.panel.specs.Calls.{row}
 use Rattle.panel.proofs.Decides.{parts-decide, panel-fine}
-use Rattle.plant.specs.Written.{plantText, room, fileRule}
+use Rattle.fields.specs.Room.{room}
+use Rattle.plant.specs.Written.{plantText, fileRule}
 use Rattle.plant.proofs.Length.{plant-length}
 use Rattle.plant_writer.proofs.Filled.{whole-length, rest-stays}
 use Rattle.plant_writer.proofs.write.Statement.{statement}

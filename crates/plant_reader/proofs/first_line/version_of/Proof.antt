@@ -1,16 +1,11 @@
 -- A field that is no number, another word, another number of fields, no version, or one.
 -- Assumes nothing.
-use Prim.Native.Nat.{_≤_}
-use native.Mathlib.Omega.{arith}
-use mathlib.Core.Path.{_≡_, sym, _∙_}
-use lib.ListN.{length}
-use lib.Seq.{length-take-le}
+use mathlib.Core.Path.{sym, _∙_}
 use borrow.Author.Needs.{needs}
 use borrow.Author.Tests.{not-true, not-false}
 use Rattle.laws.specs.Fills.{tabulate}
-use Rattle.rows.specs.Lines.{until}
-use Rattle.rows.proofs.NextLine.{place-within}
 use Rattle.texts.specs.Text.{text}
+use Rattle.fields.proofs.Parts.{FirstMark, first-mark}
 use Rattle.fields.specs.Lines.{tab}
 use Rattle.plant_reader.proofs.FirstLine.{no-form, other-word, other-count, no-version, version-good}
 use Rattle.plant_reader.proofs.first_line.version_of.Statement.{statement}
@@ -20,23 +15,19 @@ use Rattle.plant_reader.proofs.first_line.version_of.Tie as tie
 abbrev start : tie.After-numbers-of → tie.Start
 start c = c .before .before .before
 
-ends : (c : tie.After-numbers-of) → c .before .place-of .result ≡ until tab (start c .args .line .now)
-ends c = omega (arith, c .before .place-of .ensures)
-
--- the word stands in the line
-within : (c : tie.After-numbers-of) → c .before .place-of .result ≤ length (start c .args .line .now)
-within c = place-within tab (start c .args .line .now) 0 (c .before .place-of .result) (omega arith) (c .before .place-of .ensures)
+ended : (c : tie.After-numbers-of) → FirstMark tab (start c .args .line .now) (c .before .place-of .result)
+ended c = first-mark tab (start c .args .line .now) (c .before .place-of .result) (c .before .place-of .ensures)
 
 returns : tie.Need-returns
 returns c =
     let heard = c .before .before in
-    no-form (start heard .args .line .now) (heard .before .place-of .result) (heard .numbers-of .result) (ends heard) (heard .numbers-of .ensures)
+    no-form (start heard .args .line .now) (heard .before .place-of .result) (heard .numbers-of .result) (ended heard .place) (heard .numbers-of .ensures)
     (not-true _ (c .if1 .taken))
 
 slice-aggregate-is-same : tie.Need-slice-aggregate-is-same
 slice-aggregate-is-same c =
     let heard = c .before .before .before in
-    sym (length-take-le (heard .before .place-of .result) (start heard .args .line .now) (within heard))
+    ended heard .before
 
 returns-2 : tie.Need-returns-2
 unfolding text tabulate
@@ -44,7 +35,7 @@ returns-2 c =
     let called = c .before in
     let numeric = called .before .before .before in
     let heard = numeric .before .before in
-    other-word (start heard .args .line .now) (heard .before .place-of .result) (heard .numbers-of .result) (ends heard) (heard .numbers-of .ensures)
+    other-word (start heard .args .line .now) (heard .before .place-of .result) (heard .numbers-of .result) (ended heard .place) (heard .numbers-of .ensures)
     (not-false _ (numeric .if1 .left)) (sym (called .is-same .ensures) ∙ not-true _ (c .if2 .taken))
 
 returns-3 : tie.Need-returns-3
@@ -53,7 +44,7 @@ returns-3 c =
     let word = c .before in
     let numeric = word .before .before .before .before in
     let heard = numeric .before .before in
-    other-count (start heard .args .line .now) (heard .before .place-of .result) (heard .numbers-of .result) (ends heard) (heard .numbers-of .ensures)
+    other-count (start heard .args .line .now) (heard .before .place-of .result) (heard .numbers-of .result) (ended heard .place) (heard .numbers-of .ensures)
     (not-false _ (numeric .if1 .left)) (sym (word .before .is-same .ensures) ∙ not-false _ (word .if2 .left)) (c .if3 .taken)
 
 returns-4 : tie.Need-returns-4
@@ -63,7 +54,7 @@ returns-4 c =
     let word = one .before in
     let numeric = word .before .before .before .before in
     let heard = numeric .before .before in
-    no-version (start heard .args .line .now) (heard .before .place-of .result) (heard .numbers-of .result) (ends heard) (heard .numbers-of .ensures)
+    no-version (start heard .args .line .now) (heard .before .place-of .result) (heard .numbers-of .result) (ended heard .place) (heard .numbers-of .ensures)
     (not-false _ (numeric .if1 .left)) (sym (word .before .is-same .ensures) ∙ not-false _ (word .if2 .left)) (one .if3 .left)
     (sym (c .before .blind-size .ensures) ∙ c .if4 .taken)
 
@@ -74,7 +65,7 @@ returns-5 c =
     let word = one .before in
     let numeric = word .before .before .before .before in
     let heard = numeric .before .before in
-    version-good (start heard .args .line .now) (heard .before .place-of .result) (heard .numbers-of .result) (ends heard) (heard .numbers-of .ensures)
+    version-good (start heard .args .line .now) (heard .before .place-of .result) (heard .numbers-of .result) (ended heard .place) (heard .numbers-of .ensures)
     (not-false _ (numeric .if1 .left)) (sym (word .before .is-same .ensures) ∙ not-false _ (word .if2 .left)) (one .if3 .left)
     (λ e. c .if4 .left (c .before .blind-size .ensures ∙ e))
 

@@ -1,7 +1,6 @@
 -- `workloads::file_turns::writings` is safe and ends. The measure is the number of turns that are left.
 -- Nothing has to hold from turn to turn but that the lent row keeps its length. Assumes nothing.
 use Prim.Native.Nat.{_-_}
-use native.Mathlib.Omega.{arith}
 use mathlib.Core.Path.{_≡_}
 use borrow.Author.Needs.{needs}
 use lib.ListN.{length}

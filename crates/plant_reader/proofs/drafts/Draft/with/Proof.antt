@@ -1,17 +1,14 @@
 -- A field that is no number, or a line by its word.
 -- Assumes nothing.
-use Prim.Native.Nat.{ℕ, _≤_, _<_}
-use native.Mathlib.Omega.{arith}
-use mathlib.Core.Path.{_≡_, sym, _∙_}
+use Prim.Native.Nat.{ℕ, _<_}
+use mathlib.Core.Path.{_≡_, _∙_}
 use mathlib.Core.List.{List}
 use mathlib.Core.Option.{none}
 use lib.ListN.{length}
-use lib.Seq.{length-take-le}
 use borrow.Author.Needs.{needs}
 use borrow.Author.Tests.{not-true, not-false}
-use Rattle.rows.specs.Lines.{until}
-use Rattle.rows.proofs.NextLine.{place-within}
 use Rattle.arguments.specs.Arguments.{most}
+use Rattle.fields.proofs.Parts.{FirstMark, first-mark}
 use Rattle.fields.specs.Lines.{tab, line}
 use Rattle.plant.specs.Read.{Plan, further}
 use Rattle.plant_reader.specs.Reader.{planOf}
@@ -23,12 +20,8 @@ use Rattle.plant_reader.proofs.drafts.Draft.with.Tie as tie
 abbrev start : tie.After-numbers-of → tie.Start
 start c = c .before .before .before
 
-ends : (c : tie.After-numbers-of) → c .before .place-of .result ≡ until tab (start c .args .line .now)
-ends c = omega (arith, c .before .place-of .ensures)
-
--- the word stands in the line
-within : (c : tie.After-numbers-of) → c .before .place-of .result ≤ length (start c .args .line .now)
-within c = place-within tab (start c .args .line .now) 0 (c .before .place-of .result) (omega arith) (c .before .place-of .ensures)
+ended : (c : tie.After-numbers-of) → FirstMark tab (start c .args .line .now) (c .before .place-of .result)
+ended c = first-mark tab (start c .args .line .now) (c .before .place-of .result) (c .before .place-of .ensures)
 
 -- what the rest of the line's fields cannot change
 refused-long : (p : Plan) (word ns : List ℕ) → most < length ns → further p (line word ns) ≡ none
@@ -38,20 +31,20 @@ returns : tie.Need-returns
 returns c =
     let heard = c .before .before .before in
     c .refused .ensures
-    ∙ form-refused (further (planOf (start heard .args .self))) (refused-long (planOf (start heard .args .self))) (start heard .args .line .now) (heard .before .place-of .result) (heard .numbers-of .result) (ends heard) (heard .numbers-of .ensures)
+    ∙ form-refused (further (planOf (start heard .args .self))) (refused-long (planOf (start heard .args .self))) (start heard .args .line .now) (heard .before .place-of .result) (heard .numbers-of .result) (ended heard .place) (heard .numbers-of .ensures)
     (not-true _ (c .before .if1 .taken))
 
 slice-aggregate-further : tie.Need-slice-aggregate-further
 slice-aggregate-further c =
     let heard = c .before .before .before in
-    sym (length-take-le (heard .before .place-of .result) (start heard .args .line .now) (within heard))
+    ended heard .before
 
 returns-2 : tie.Need-returns-2
 returns-2 c =
     let numeric = c .before .before in
     let heard = numeric .before .before in
     c .further .ensures
-    ∙ line-taken (further (planOf (start heard .args .self))) (refused-long (planOf (start heard .args .self))) (start heard .args .line .now) (heard .before .place-of .result) (heard .numbers-of .result) (ends heard) (heard .numbers-of .ensures)
+    ∙ line-taken (further (planOf (start heard .args .self))) (refused-long (planOf (start heard .args .self))) (start heard .args .line .now) (heard .before .place-of .result) (heard .numbers-of .result) (ended heard .place) (heard .numbers-of .ensures)
     (not-false _ (numeric .if1 .left))
 
 pub with-spec : {M : Type 1} → statement M
