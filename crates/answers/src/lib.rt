@@ -1,5 +1,6 @@
 // Document 01, "Numbers the panel answers": a name for each number of the table, and for those that document 02 adds.
 // Whoever answers a number says it by one of these names.
+#![tactic(auto)]
 
 pub const DONE: u8 = 0;
 

@@ -1,5 +1,7 @@
 // The command language of the bench, its arguments: the words after the command's name, read as numbers. What is more than
 // any command takes is counted once and not kept.
+#![tactic(auto)]
+
 ghost use Rattle.std.specs.Prelude.{◌≡◌, drop};
 ghost use Rattle.words.specs.Words.{words};
 ghost use Rattle.arguments.specs.Arguments.{nothing, one_more, with, heard};
@@ -10,7 +12,7 @@ use words::{word_end, word_start};
 // The most arguments that are kept.
 pub const MOST: usize = 12;
 
-#[derive(Drop)]
+#[derive(Clone, Copy)]
 pub struct Arguments {
     // How many there are, or one more than are kept.
     pub count: usize,

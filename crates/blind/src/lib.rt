@@ -1,5 +1,7 @@
 // One blind: what it is made of. Its orders and its millisecond stand in the modules below, one for each
 // heading of document 01.
+#![tactic(auto)]
+
 mod millisecond;
 mod orders;
 
@@ -10,14 +12,14 @@ use heights::Place;
 use params::Params;
 use runs::{Last, Run};
 
-#[derive(Drop)]
+#[derive(Clone, Copy)]
 pub enum Forced {
     No,
     Up,
     Down,
 }
 
-#[derive(Drop)]
+#[derive(Clone, Copy)]
 pub struct Flags {
     pub wind: bool,
     pub rain: bool,
@@ -26,14 +28,14 @@ pub struct Flags {
 }
 
 // What the motor does. The rest time stands only where the motor is off: while it runs there is none.
-#[derive(Drop)]
+#[derive(Clone, Copy)]
 pub enum Motion {
     Off(u32),
     Waits(u32, Run),
     Runs(Run),
 }
 
-#[derive(Drop)]
+#[derive(Clone, Copy)]
 pub struct Blind {
     pub params: Params,
     pub flags: Flags,

@@ -8,6 +8,7 @@ use runs::Run;
 use runs::millisecond::left;
 
 impl Blind {
+    #[tactic(auto, unfolding(crate::specs::Millisecond::millisecond, crate::specs::Millisecond::millisecond_at))]
     pub fn millisecond(self) -> Blind
         ensures { result ≡ millisecond self }
     {
@@ -19,6 +20,7 @@ impl Blind {
         }
     }
 
+    #[tactic(auto, unfolding(crate::specs::Millisecond::waited))]
     fn wait(self, rest: u32, run: Run) -> Blind
         ensures { result ≡ waited rest run self }
     {
@@ -28,6 +30,7 @@ impl Blind {
         self.with_motion(Motion::Waits(left(rest, 1), run))
     }
 
+    #[tactic(auto, unfolding(crate::specs::Millisecond::ran, crate::specs::Millisecond::arrived, runs::specs::Millisecond::shorter))]
     fn run(self, run: Run) -> Blind
         ensures { result ≡ ran run self }
     {
@@ -45,6 +48,7 @@ impl Blind {
         moved.with_motion(Motion::Runs(shorter))
     }
 
+    #[tactic(auto, unfolding(crate::specs::Millisecond::moved))]
     fn moved(self, direction: Direction) -> Blind
         ensures { result ≡ moved direction self }
     {

@@ -9,6 +9,7 @@ use params::Params;
 use runs::{Last, Run};
 
 impl Blind {
+    #[tactic(auto, unfolding(crate::specs::Orders::fresh_of))]
     pub fn fresh(params: Params) -> Blind
         ensures { result ≡ fresh_of params }
     {
@@ -27,6 +28,7 @@ impl Blind {
         }
     }
 
+    #[tactic(auto, unfolding(crate::specs::Orders::ordered, crate::specs::Orders::ordered_at, crate::specs::Orders::ordered_running))]
     pub fn order(self, run: Run) -> Blind
         ensures { result ≡ ordered run self }
     {
@@ -46,6 +48,7 @@ impl Blind {
         }
     }
 
+    #[tactic(auto, unfolding(crate::specs::Orders::ordered_off))]
     fn order_off(self, rest: u32, run: Run) -> Blind
         ensures { result ≡ ordered_off rest run self }
     {
@@ -61,6 +64,7 @@ impl Blind {
     }
 
     // The last direction changes here and nowhere else: when the motor starts.
+    #[tactic(auto, unfolding(crate::specs::Orders::started))]
     pub(crate) fn start(self, run: Run) -> Blind
         ensures { result ≡ started run self }
     {
@@ -72,6 +76,7 @@ impl Blind {
         }
     }
 
+    #[tactic(auto, unfolding(crate::specs::Orders::stopped, crate::specs::Orders::stopped_at))]
     pub fn stop(self) -> Blind
         ensures { result ≡ stopped self }
     {
@@ -84,6 +89,7 @@ impl Blind {
     }
 
     // Whenever a motion ends the rest time is the whole pause.
+    #[tactic(auto, unfolding(crate::specs::Orders::motor_off))]
     pub(crate) fn motor_off(self) -> Blind
         ensures { result ≡ motor_off self }
     {

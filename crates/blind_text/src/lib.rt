@@ -1,4 +1,6 @@
 // A blind in one line of text, put on a lent sheet: its tag and terminal, its parameters, its state and its motion.
+#![tactic(auto)]
+
 ghost use Rattle.std.specs.Prelude.{◌≡◌, cond};
 ghost use Rattle.params.specs.Numbers.{numbers_of};
 ghost use Rattle.texts.specs.Sheet.{sheet, puts};

@@ -1,5 +1,7 @@
 // Runs the numbered cases of document 01 on a blind with the default set, and writes a line for each:
 // name, tab, `same` or `differs`.
+#![tactic(auto)]
+
 fn main() {
     numbered::write(
         b"install 5 9 = 0 0\n",

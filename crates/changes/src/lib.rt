@@ -1,4 +1,6 @@
 // Whether a telegram changed a blind: it can touch the flags, the last direction and the motion, and nothing else of it.
+#![tactic(auto)]
+
 ghost use Rattle.std.specs.Prelude.{◌≡◌};
 ghost use Rattle.blind.specs.Numbers.{forced_number, last_number, direction_number, goal_number};
 ghost use Rattle.changes.specs.Changes.{same_flags, same_run, is_off, is_waiting, is_running, same_motion, changed};

@@ -9,7 +9,7 @@ use file_word::is_file;
 use words::{word_end, word_start};
 
 // A part of a line.
-#[derive(Drop)]
+#[derive(Clone, Copy)]
 pub struct Part {
     pub from: usize,
     pub to: usize,

@@ -1,12 +1,14 @@
 // The command language of the bench, one command a line: a line is read as a command, as something to pass over, or as a
 // mistake. Nothing is carried out here.
+#![tactic(auto)]
+
 pub mod file_line;
 pub mod lines;
 
 use params::Asked;
 
 // An edit of the panel, with its numbers as they stand in the line, of any size.
-#[derive(Drop)]
+#[derive(Clone, Copy)]
 pub enum Edit {
     Install(u64, u64, Asked),
     Remove(u64),
@@ -18,7 +20,7 @@ pub enum Edit {
 }
 
 // What a line asks for.
-#[derive(Drop)]
+#[derive(Clone, Copy)]
 pub enum Command {
     New,
     Show,
@@ -33,7 +35,7 @@ pub enum Command {
 }
 
 // What can be wrong with a line.
-#[derive(Drop)]
+#[derive(Clone, Copy)]
 pub enum Fault {
     TooLong,
     UnknownCommand,
@@ -43,7 +45,7 @@ pub enum Fault {
 }
 
 // What a line means. A file is carried out where the line is at hand: it is as long as the line.
-#[derive(Drop)]
+#[derive(Clone, Copy)]
 pub enum Meaning {
     Silent,
     Call(Command),

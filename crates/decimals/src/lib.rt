@@ -1,5 +1,7 @@
 // Numbers of up to 64 bits as decimal text: read from a word, and put on a sheet. A word that is no such number is refused
 // and never cut short.
+#![tactic(auto)]
+
 ghost use Rattle.std.specs.Prelude.{◌%◌, ◌≡◌, [], ◌∷◌};
 ghost use Rattle.texts.specs.Sheet.{sheet, puts};
 ghost use Rattle.decimals.specs.Decimals.{sign, decimal, number_after, number_of, plain_of};
@@ -14,7 +16,7 @@ const NINE: u8 = b'9';
 
 const LARGEST: u64 = 18446744073709551615;
 
-#[derive(Drop)]
+#[derive(Clone, Copy)]
 pub enum Number {
     Nothing,
     Of(u64),

@@ -1,4 +1,6 @@
 // A command carried out on a panel: the panel's own call, or what a display shows, and the answer on a lent sheet.
+#![tactic(auto)]
+
 mod files;
 mod motors;
 
@@ -38,7 +40,7 @@ use wiring::{add_link, remove_link};
 use writes::write_params;
 
 // The panel as a command leaves it, and how far the sheet is written.
-#[derive(Drop)]
+#[derive(Clone, Copy)]
 pub struct After {
     pub panel: Panel,
     pub at: usize,

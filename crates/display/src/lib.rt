@@ -1,4 +1,6 @@
 // What a wall display shows: per cent of the way down, for a report without its 256.
+#![tactic(auto)]
+
 ghost use Rattle.std.specs.Prelude.{◌≡◌};
 ghost use Rattle.display.specs.Display.{percent_of};
 

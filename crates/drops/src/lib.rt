@@ -1,5 +1,7 @@
 // Document 01, "Edits": what remove blind does to a table, which also drops the links of its tag. A link that stays moves
 // to the next free place.
+#![tactic(auto)]
+
 ghost use Rattle.std.specs.Prelude.{◌≡◌, cond, ltb};
 ghost use Rattle.link.specs.Link.{of_word};
 ghost use Rattle.table.specs.Links.{held_of};

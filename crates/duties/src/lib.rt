@@ -1,9 +1,11 @@
 // Who rules a blind: the first alarm that counts, the forced input or nobody, and the duty that follows
 // from it.
+#![tactic(auto)]
+
 pub mod rulers;
 
 // Whose word the blind follows. Commands reach the motor only while nobody rules.
-#[derive(Drop)]
+#[derive(Clone, Copy)]
 pub enum Ruler {
     Nobody,
     Wind,
@@ -12,7 +14,7 @@ pub enum Ruler {
     Forced,
 }
 
-#[derive(Drop)]
+#[derive(Clone, Copy)]
 pub enum Duty {
     Free,
     Up,

@@ -8,6 +8,7 @@ use crate::{Duty, Ruler};
 use blind::{Blind, Flags, Forced};
 use params::Reaction;
 
+#[tactic(auto, unfolding(crate::specs::Rulers::ruler_of))]
 pub fn ruler(blind: Blind) -> Ruler
     ensures { result ≡ ruler_of blind }
 {
@@ -52,12 +53,14 @@ fn forced_ruler(flags: Flags) -> Ruler
     }
 }
 
+#[tactic(auto, unfolding(crate::specs::Rulers::duty_of))]
 pub fn duty(blind: Blind) -> Duty
     ensures { result ≡ duty_of blind }
 {
     duty_under(ruler(blind), blind)
 }
 
+#[tactic(auto, unfolding(crate::specs::Rulers::duty_under))]
 fn duty_under(ruler: Ruler, blind: Blind) -> Duty
     ensures { result ≡ duty_under ruler blind }
 {

@@ -1,4 +1,6 @@
 // What is wrong with a line, as text: the number of the line, and its first mistake.
+#![tactic(auto)]
+
 ghost use Rattle.std.specs.Prelude.{◌≡◌};
 ghost use Rattle.texts.specs.Sheet.{sheet, puts};
 ghost use Rattle.fault_text.specs.FaultText.{fault_text, error_text};

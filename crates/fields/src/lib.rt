@@ -1,4 +1,6 @@
 // A line of a plant file as a word and numbers, parted by tabs.
+#![tactic(auto)]
+
 pub mod written;
 
 ghost use Rattle.std.specs.Prelude.{◌≡◌, drop};

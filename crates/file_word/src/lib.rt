@@ -1,4 +1,6 @@
 // A plant file as one word of a line: signs stand for the bytes that could not stand in a word, every other byte for itself.
+#![tactic(auto)]
+
 mod signs;
 
 ghost use Rattle.std.specs.Prelude.{◌≡◌};

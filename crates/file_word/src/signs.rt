@@ -13,7 +13,7 @@ const BACKSLASH: u8 = 92;
 const BASE: u8 = 16;
 
 // How far a sign is read: none is open, a backslash, an `x` after it, one digit after that; or it is none of the signs.
-#[derive(Drop)]
+#[derive(Clone, Copy)]
 pub enum Sign {
     Over,
     Begun,
@@ -23,7 +23,7 @@ pub enum Sign {
 }
 
 // What one byte more makes: how far a sign is read then, and the byte that is given, if one is.
-#[derive(Drop)]
+#[derive(Clone, Copy)]
 pub struct Step {
     pub sign: Sign,
     gives: bool,

@@ -1,26 +1,28 @@
 // All that the rules ask of heights: where a blind is, how long a full run lasts, where a running millisecond and a
 // whole run lead, what a byte means as a target and which way it is, and what is told of a place.
+#![tactic(auto)]
+
 ghost use Rattle.std.specs.Prelude.{◌*◌, ◌≡◌};
 ghost use Rattle.laws.specs.Nearest.{nearest};
 ghost use Rattle.heights.specs.Heights.{full_time, bottom, next_height, next_place, place_after, end_of, target, way_to, kept_between, raw, told};
 
 use params::Params;
 
-#[derive(Drop)]
+#[derive(Clone, Copy)]
 pub enum Direction {
     Up,
     Down,
 }
 
 // The position is 0 at the top. It is counted and told also while it is not valid.
-#[derive(Drop)]
+#[derive(Clone, Copy)]
 pub struct Place {
     pub position: u32,
     pub valid: bool,
 }
 
 // The way to a target: the blind is there, or it goes in a direction for some milliseconds.
-#[derive(Drop)]
+#[derive(Clone, Copy)]
 pub enum Way {
     Met,
     Go(Direction, u32),
@@ -38,6 +40,7 @@ const MOST: u64 = 254;
 const VALID: u64 = 256;
 
 // How long a full run lasts.
+#[tactic(auto, unfolding(crate::specs::Heights::full_time))]
 pub fn full_time(direction: Direction, params: Params) -> u32
     ensures { result ≡ full_time direction params }
 {
@@ -45,6 +48,7 @@ pub fn full_time(direction: Direction, params: Params) -> u32
 }
 
 // The position of the lower end; the upper end is 0.
+#[tactic(auto, unfolding(crate::specs::Heights::bottom))]
 pub fn bottom(params: Params) -> u32
     ensures { result ≡ bottom params }
 {
@@ -52,6 +56,7 @@ pub fn bottom(params: Params) -> u32
 }
 
 // Where a full run ends.
+#[tactic(auto, unfolding(crate::specs::Heights::end_of))]
 pub fn end(direction: Direction, params: Params) -> Place
     ensures { result ≡ end_of direction params }
 {
@@ -68,6 +73,7 @@ pub fn end(direction: Direction, params: Params) -> Place
 }
 
 // The position that a byte asks for.
+#[tactic(auto, unfolding(crate::specs::Heights::target))]
 pub fn target(v: u8, params: Params) -> u32
     ensures { result ≡ target v params }
 {
@@ -83,6 +89,7 @@ impl Place {
     };
 
     // After one running millisecond.
+    #[tactic(auto, unfolding(crate::specs::Heights::next_place))]
     pub fn next(self, direction: Direction, params: Params) -> Place
         ensures { result ≡ next_place direction params self }
     {
@@ -91,6 +98,7 @@ impl Place {
     }
 
     // After some running milliseconds.
+    #[tactic(auto, unfolding(crate::specs::Heights::place_after))]
     pub fn after(self, count: u32, direction: Direction, params: Params) -> Place
         ensures { result ≡ place_after count direction params self }
     {
@@ -101,6 +109,7 @@ impl Place {
         place
     }
 
+    #[tactic(auto, unfolding(crate::specs::Heights::way_to))]
     pub fn way_to(self, target: u32, params: Params) -> Way
         ensures { result ≡ way_to params target self }
     {
@@ -115,6 +124,7 @@ impl Place {
     }
 
     // What a report tells of it.
+    #[tactic(auto, unfolding(crate::specs::Heights::told))]
     pub fn told(self, params: Params) -> u64
         ensures { result ≡ told params self }
     {
@@ -139,6 +149,7 @@ fn next_height(direction: Direction, bottom: u32, position: u32) -> u32
 }
 
 // A height as a byte: 0 at the top, 255 at the bottom, and between them the nearest part of the way.
+#[tactic(auto, unfolding(crate::specs::Heights::raw))]
 fn raw(position: u32, bottom: u32) -> u64
     ensures { result ≡ raw position bottom }
 {
@@ -152,6 +163,7 @@ fn raw(position: u32, bottom: u32) -> u64
 }
 
 // The nearest of the parts of the way. A lower end of 0 is no sound blind's, but it must not be divided by.
+#[tactic(auto, unfolding(laws::specs::Nearest::nearest))]
 fn nearest_part(position: u32, bottom: u32) -> u64
     ensures { result ≡ nearest (position * 255) bottom }
 {

@@ -1,10 +1,12 @@
 // The inputs that command a blind: what MUD, STOP, SSUD and SAPBP order, whoever rules.
+#![tactic(auto)]
+
 pub mod orders;
 
 use heights::{Direction, Way};
 
 // Kinds 4 to 7: MUD, STOP, SSUD and SAPBP with its byte.
-#[derive(Drop)]
+#[derive(Clone, Copy)]
 pub enum Command {
     Stop,
     Move(Direction),
@@ -13,7 +15,7 @@ pub enum Command {
 }
 
 // What a byte for SAPBP asks of a blind: nothing, an end, or the way to a target between the ends.
-#[derive(Drop)]
+#[derive(Clone, Copy)]
 pub enum Aim {
     Dropped,
     Full(Direction),

@@ -1,5 +1,7 @@
 // Document 01, "Edits": install a blind. The call judges first and then does its work, on its own panel; what judges gets
 // numbers alone. A refused call hands back the very panel.
+#![tactic(auto)]
+
 ghost use Rattle.std.specs.Prelude.{◌≡◌, not, ◌||◌, [], ◌∷◌, leb};
 ghost use Rattle.answers.specs.Answers.{refusal};
 ghost use Rattle.tags.specs.Tags.{places, tags_of};

@@ -1,8 +1,10 @@
 // Bytes of an input, read into a lent row. A read that failed is not the end of the input.
+#![tactic(auto)]
+
 ghost use Rattle.std.specs.Prelude.{◌≤◌, length};
 
 // How many bytes there are, and whether a read failed.
-#[derive(Drop)]
+#[derive(Clone, Copy)]
 pub struct Heard {
     pub have: usize,
     pub failed: bool,

@@ -1,5 +1,6 @@
 // Document 01, "Links and telegrams": the input kinds by the paper's names, and the class of each.
 // A class is named by its greatest value: a value above it is not of the class, and 0 is no class.
+#![tactic(auto)]
 
 ghost use Rattle.std.specs.Prelude.{◌≡◌};
 ghost use Rattle.kinds.specs.Kinds.{class_of};
@@ -31,6 +32,7 @@ pub const ONE_BYTE: u32 = 255;
 
 // FO is of two bits and SAPBP of one byte; every other kind is of one bit. In 32 bits, as wide as a link's word, so
 // that a loop over words has one width.
+#[tactic(auto, unfolding(crate::specs::Kinds::class_of))]
 pub fn class_of_kind(kind: u32) -> u32
     ensures { result ≡ class_of kind }
 {

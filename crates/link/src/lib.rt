@@ -1,4 +1,6 @@
 // Document 01, "Links and telegrams": a link is (address 1 to 65535, tag, input kind).
+#![tactic(auto)]
+
 
 pub mod words;
 
@@ -15,7 +17,7 @@ const LAST_TAG: u64 = 63;
 
 const LAST_KIND: u64 = LAST as u64;
 
-#[derive(Drop)]
+#[derive(Clone, Copy)]
 pub struct Link {
     pub address: u16,
     pub tag: u8,

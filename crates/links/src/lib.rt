@@ -1,6 +1,8 @@
 // Document 01, "Edits": add a link to a table, remove a link. Each answers how many surviving links stand at another place
 // than before; a refused edit hands the table back as it was. Whatever a table holds, every call answers: one that is not
 // sound is refused by 12.
+#![tactic(auto)]
+
 
 mod search;
 
@@ -20,7 +22,7 @@ use table::soundness::is_sound;
 use table::{MOST, Table};
 
 // What an edit answers, how many surviving links it moved, and the table that it leaves.
-#[derive(Drop)]
+#[derive(Clone, Copy)]
 pub struct Edited {
     pub answer: u8,
     pub moved: u64,

@@ -1,4 +1,6 @@
 // The main loop of a device, piece by piece in docs/EMBEDDING.md: events in, reports and motor commands out.
+#![tactic(auto)]
+
 mod lines;
 
 use answers::DONE;
@@ -17,7 +19,7 @@ use time_steps::time_step;
 use wiring::add_link;
 
 // What a device hears: a telegram with its address and value, or that so many milliseconds have passed.
-#[derive(Drop)]
+#[derive(Clone, Copy)]
 enum Event {
     Telegram(u64, u64),
     Time(u64),

@@ -1,4 +1,6 @@
 // Document 01, "One millisecond": a time step of dt is dt milliseconds, here for one blind.
+#![tactic(auto)]
+
 ghost use Rattle.std.specs.Prelude.{◌≡◌};
 ghost use Rattle.milliseconds.specs.Milliseconds.{milliseconds};
 

@@ -1,4 +1,6 @@
 // A motion as text, put on a lent sheet: the rest time, the run, and the order that waits.
+#![tactic(auto)]
+
 ghost use Rattle.std.specs.Prelude.{◌≡◌};
 ghost use Rattle.texts.specs.Sheet.{sheet, puts};
 ghost use Rattle.motion_text.specs.MotionText.{direction_text, goal_text, run_text, motion_text};

@@ -1,5 +1,7 @@
 // The command language of the bench, its names: the first word of a line is the command, and each command takes a number of
 // arguments.
+#![tactic(auto)]
+
 ghost use Rattle.std.specs.Prelude.{◌≡◌};
 ghost use Rattle.names.specs.Names.{unknown, taking, entry_for, entry_of, takes as ofNames·takes};
 
@@ -9,7 +11,7 @@ use words::is_same;
 // A set of parameters, all of it or nothing.
 const A_SET: u8 = SET as u8;
 
-#[derive(Drop)]
+#[derive(Clone, Copy)]
 pub enum Name {
     New,
     Show,
@@ -31,7 +33,7 @@ pub enum Name {
 
 // What is known of a word: whether it names a command, and if so which, how many arguments that takes, and how many more
 // may follow.
-#[derive(Drop)]
+#[derive(Clone, Copy)]
 pub struct Entry {
     pub known: bool,
     pub name: Name,

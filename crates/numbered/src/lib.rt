@@ -1,5 +1,7 @@
 // Document 01, "Cases by number": W1 to W12 and R1 to R3 as scripts, and a line for each. What a case starts from ("running
 // up", "not busy") is brought about by commands and looked at before the case goes on. Kind k has the address 100 + k.
+#![tactic(auto)]
+
 mod limits;
 
 use crate::limits::{LIMITS, full_table};

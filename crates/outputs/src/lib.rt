@@ -1,5 +1,7 @@
 // Document 01, "Reports and strip", for one blind: the motor command, whether the blind is busy, and what it
 // reports after a call. Nothing here changes a blind.
+#![tactic(auto)]
+
 ghost use Rattle.std.specs.Prelude.{◌≡◌, cond};
 ghost use Rattle.outputs.specs.Reports.{command, motor_of, active, busy, no_report, report};
 

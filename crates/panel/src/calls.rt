@@ -3,7 +3,7 @@
 use crate::Panel;
 
 // The answer, the count with it, and the panel as the call leaves it.
-#[derive(Drop)]
+#[derive(Clone, Copy)]
 pub struct Answered {
     pub answer: u8,
     pub count: u64,

@@ -1,5 +1,7 @@
 // Document 01, "What the panel is": up to 64 blinds (tags 0 to 63), a strip of 128 terminals and up to 512 links.
 // A tag that is not present carries nothing, whatever stands at its place.
+#![tactic(auto)]
+
 
 pub mod calls;
 pub mod soundness;
@@ -12,7 +14,7 @@ use params::Params;
 use table::Table;
 use tags::{CELLS, Tags};
 
-#[derive(Drop)]
+#[derive(Clone, Copy)]
 pub struct Panel {
     pub present: Tags,
     pub terminals: [u8; CELLS],

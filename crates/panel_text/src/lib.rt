@@ -1,4 +1,6 @@
 // The whole panel in one line: each blind by its tag with all that it holds, then each link in table order.
+#![tactic(auto)]
+
 ghost use Rattle.std.specs.Prelude.{◌≡◌, cond, []};
 ghost use Rattle.tags.specs.Tags.{places, tags_of};
 ghost use Rattle.table.specs.Links.{held_of};

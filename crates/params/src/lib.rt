@@ -1,9 +1,11 @@
 // Document 01, "Parameters of a blind": a set of parameters, and the numbers that a caller asks for. What the set
 // holds, in which order its numbers stand and in which ranges they lie is said in this crate alone.
+#![tactic(auto)]
+
 mod numbers;
 mod parameters;
 
-#[derive(Drop)]
+#[derive(Clone, Copy)]
 pub enum Reaction {
     Ignore,
     Up,
@@ -12,7 +14,7 @@ pub enum Reaction {
 }
 
 // Times in milliseconds; the reactions are those to wind, rain and frost.
-#[derive(Drop)]
+#[derive(Clone, Copy)]
 pub struct Params {
     pub mudt: u32,
     pub sst: u32,
@@ -27,7 +29,7 @@ pub const SET: usize = 6;
 
 // The numbers that a caller asks for, of any size, so that each of them can be outside its range.
 // Reactions as numbers: 0 ignore, 1 up, 2 down, 3 stop.
-#[derive(Drop)]
+#[derive(Clone, Copy)]
 pub struct Asked {
     pub mudt: u64,
     pub sst: u64,

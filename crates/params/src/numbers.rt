@@ -11,6 +11,7 @@ const LAST_REACTION: u64 = 3;
 
 impl Asked {
     // The numbers in the paper's order.
+    #[tactic(auto, unfolding(crate::specs::Numbers::asked_of))]
     pub fn of(numbers: [u64; SET]) -> Asked
         ensures { result ≡ asked_of numbers }
     {
@@ -31,6 +32,7 @@ impl Asked {
         Asked::of(Params::default_set().numbers())
     }
 
+    #[tactic(auto, unfolding(crate::specs::Numbers::allowed, crate::specs::Numbers::params_of, crate::specs::Parameters::in_range))]
     pub fn in_range(self) -> bool
         ensures { result ≡ allowed (row_of self) }
     {
@@ -47,6 +49,7 @@ impl Asked {
     }
 
     // The set that the numbers are. Numbers that are not in range are no set; whoever asks all the same gets the default.
+    #[tactic(auto, unfolding(crate::specs::Numbers::params_of))]
     pub fn params(self) -> Params
         ensures { result ≡ cond (allowed (row_of self)) (params_of (row_of self)) defaults }
     {
@@ -64,6 +67,7 @@ impl Asked {
     }
 }
 
+#[tactic(auto, unfolding(crate::specs::Numbers::reaction_of))]
 fn reaction(number: u64) -> Reaction
     ensures { result ≡ reaction_of number }
 {

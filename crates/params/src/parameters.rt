@@ -15,12 +15,14 @@ impl Params {
         rfa: Reaction::Stop,
     };
 
+    #[tactic(auto, unfolding(crate::specs::Parameters::defaults))]
     pub fn default_set() -> Params
         ensures { result ≡ defaults }
     {
         Params::DEFAULT
     }
 
+    #[tactic(auto, unfolding(crate::specs::Parameters::in_range))]
     pub fn in_range(self) -> bool
         ensures { result ≡ in_range self }
     {
@@ -34,6 +36,7 @@ impl Params {
         self.rpt
     }
 
+    #[tactic(auto, unfolding(crate::specs::Numbers::numbers_of))]
     pub fn numbers(self) -> [u64; SET]
         ensures { result ≡ numbers_of self }
     {
@@ -52,6 +55,7 @@ impl Params {
 }
 
 // Of numbers of any size, so that each can be outside its range.
+#[tactic(auto, unfolding(crate::specs::Parameters::times_in_range))]
 pub(crate) fn times_in_range(mudt: u64, sst: u64, rpt: u64) -> bool
     ensures { result ≡ times_in_range mudt sst rpt }
 {
@@ -67,6 +71,7 @@ pub(crate) fn times_in_range(mudt: u64, sst: u64, rpt: u64) -> bool
     within(100, 10_000, rpt)
 }
 
+#[tactic(auto, unfolding(crate::specs::Parameters::within))]
 fn within(least: u64, most: u64, n: u64) -> bool
     ensures { result ≡ within least most n }
 {

@@ -1,5 +1,7 @@
 // Is this a plant file? Its bytes come on standard input, and one line goes to standard output. The verdict is the crate
 // verdicts'; here bytes are only fetched and handed on.
+#![tactic(auto)]
+
 use intake::fetch_all;
 use libc::{STDERR_FILENO, STDIN_FILENO, STDOUT_FILENO};
 use rows::least;

@@ -16,7 +16,7 @@ use wiring::add_link;
 use words::is_same;
 
 // The panel, the lowest tag that a further blind line may have, and the version.
-#[derive(Drop)]
+#[derive(Clone, Copy)]
 pub(crate) struct Draft {
     pub panel: Panel,
     pub floor: u64,
@@ -24,7 +24,7 @@ pub(crate) struct Draft {
 }
 
 // Whether a line is good, and the draft with it.
-#[derive(Drop)]
+#[derive(Clone, Copy)]
 pub(crate) struct Taken {
     pub good: bool,
     pub draft: Draft,

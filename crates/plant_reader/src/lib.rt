@@ -1,5 +1,7 @@
 // Document 02, K3, the reader: the panel of a plant file, any bytes of any length, line by line. A line that is bad beside
 // the lines before ends it, and then nothing is left of what was read.
+#![tactic(auto)]
+
 mod drafts;
 mod first_line;
 
@@ -13,7 +15,7 @@ use panel::Panel;
 use rows::line_end;
 
 // The number of the first bad line and an empty panel; or 0 and the panel of the file.
-#[derive(Drop)]
+#[derive(Clone, Copy)]
 pub struct FileRead {
     pub line: u64,
     pub panel: Panel,

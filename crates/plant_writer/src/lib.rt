@@ -1,4 +1,6 @@
 // Document 02, K3, the writer: the plant file of a panel, put into a lent buffer from its front.
+#![tactic(auto)]
+
 mod lines;
 
 ghost use Rattle.std.specs.Prelude.{◌≡◌};
@@ -15,7 +17,7 @@ use panel::Panel;
 use panel::soundness::{is_sound, seats_sound};
 
 // The answer, and how many bytes the file has.
-#[derive(Drop)]
+#[derive(Clone, Copy)]
 pub struct Written {
     pub answer: u8,
     pub length: usize,

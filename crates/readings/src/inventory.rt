@@ -10,7 +10,7 @@ use panel::Panel;
 use panel::soundness::{is_sound, seats_sound};
 
 // The answer, the number of blinds, and the lowest free tag.
-#[derive(Drop)]
+#[derive(Clone, Copy)]
 pub struct Counted {
     pub answer: u8,
     pub blinds: u32,

@@ -1,4 +1,6 @@
 // A reason as text, put on a lent sheet: the number of a refusal, or a 0 and the reason's words.
+#![tactic(auto)]
+
 ghost use Rattle.std.specs.Prelude.{◌≡◌};
 ghost use Rattle.texts.specs.Sheet.{sheet, puts};
 ghost use Rattle.reason_text.specs.ReasonText.{reason_text};

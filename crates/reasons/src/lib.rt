@@ -1,4 +1,6 @@
 // Document 02, K1, "Why didn't it move?": the reasons, and which of them holds of a link that was judged on a blind.
+#![tactic(auto)]
+
 ghost use Rattle.std.specs.Prelude.{◌≡◌, cond, ◌&&◌, eqb, leb, ltb};
 ghost use Rattle.kinds.specs.Kinds as kinds;
 ghost use Rattle.duties.specs.Rulers.{ruler_of};
@@ -18,7 +20,7 @@ use rules::heed;
 use values::Input;
 
 // In the order of document 02. The first three refuse the question.
-#[derive(Drop)]
+#[derive(Clone, Copy)]
 pub enum Reason {
     NotSound,
     OutOfRange,
@@ -59,7 +61,7 @@ impl Reason {
 }
 
 // The kind of the link that spoke last, and the blind before it spoke and after.
-#[derive(Drop)]
+#[derive(Clone, Copy)]
 pub struct Judged {
     pub kind: u8,
     pub before: Blind,

@@ -1,6 +1,8 @@
 // Document 01, "Edits": remove a blind. The call judges first and then does its work, on its own panel; what judges gets
 // numbers, a single blind and the table. A refused call hands back the very panel. The place of a tag outside its range
 // is that of another, which is then not looked at.
+#![tactic(auto)]
+
 ghost use Rattle.std.specs.Prelude.{◌≡◌, cond, [], ◌∷◌};
 ghost use Rattle.answers.specs.Answers.{first};
 ghost use Rattle.table.specs.Links.{held_of};

@@ -1,5 +1,7 @@
 // A panel on the bench: commands from standard input, one a line, each carried out on one panel and answered on standard
 // output by one line. The work is in the crate replies; here bytes are only fetched and handed on.
+#![tactic(auto)]
+
 mod output;
 mod start;
 
@@ -19,7 +21,7 @@ const MOST_KEPT: usize = LONGEST + 1;
 // of 64 blinds and 512 links, still fits after it.
 const FULL: usize = 4_096;
 
-#[derive(Drop)]
+#[derive(Clone, Copy)]
 struct Bench {
     panel: Panel,
     // How many lines were read.

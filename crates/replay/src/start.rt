@@ -12,7 +12,7 @@ use texts::put_text;
 const ONE_FILE: usize = 2;
 
 // A panel, and whether to begin with it.
-#[derive(Drop)]
+#[derive(Clone, Copy)]
 pub(crate) struct Start {
     pub good: bool,
     pub panel: Panel,

@@ -1,5 +1,7 @@
 // The bench, a line in and an answer line out: each line is carried out on a panel, and its answer is written on a lent
 // sheet. A line that is wrong changes nothing and is answered all the same.
+#![tactic(auto)]
+
 mod files;
 
 ghost use Rattle.std.specs.Prelude.{◌≡◌};

@@ -1,4 +1,6 @@
 // Lines in a row of bytes that arrives in parts: where a line ends, and what of it waits at the front for the rest.
+#![tactic(auto)]
+
 ghost use Rattle.std.specs.Prelude.{◌+◌, min, ◌≡◌, length, drop};
 ghost use Rattle.rows.specs.Lines.{until, movable, moved};
 

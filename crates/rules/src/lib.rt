@@ -1,5 +1,7 @@
 // Document 01, "Who rules a blind": what a telegram does to a blind. A new flag or new parameters may
 // change the duty, and a changed duty brings its order; a command reaches the motor only under the duty Free.
+#![tactic(auto)]
+
 pub mod edits;
 
 ghost use Rattle.std.specs.Prelude.{◌≡◌};

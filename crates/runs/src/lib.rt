@@ -1,12 +1,14 @@
 // A run: which way the motor goes, what for and how long. What is asked of it stands in the modules below, one
 // for each heading of document 01.
+#![tactic(auto)]
+
 pub mod millisecond;
 mod orders;
 
 use heights::Direction;
 
 // The direction in which the motor started last; a fresh blind has either.
-#[derive(Drop)]
+#[derive(Clone, Copy)]
 pub enum Last {
     Either,
     Up,
@@ -14,14 +16,14 @@ pub enum Last {
 }
 
 // What a run goes for. It is part of the run: a step may be as long as a full run.
-#[derive(Drop)]
+#[derive(Clone, Copy)]
 pub enum Goal {
     Full,
     Step,
     Position,
 }
 
-#[derive(Drop)]
+#[derive(Clone, Copy)]
 pub struct Run {
     pub direction: Direction,
     pub goal: Goal,

@@ -1,5 +1,7 @@
 // A script: commands in the language of replay, one a line, each with the answer that it should give after an equals sign,
 // as in `time 499 = 0 0`. A line without the sign, a comment or an empty one, is to be answered by nothing.
+#![tactic(auto)]
+
 ghost use Rattle.std.specs.Prelude.{◌-◌, ◌≡◌, ◌&&◌, take};
 ghost use Rattle.texts.specs.Text.{same as ofText·same};
 ghost use Rattle.rows.specs.Lines.{lines};
@@ -16,7 +18,7 @@ const EQUALS: u8 = b'=';
 const BEFORE_ANSWER: usize = 2;
 
 // A panel on its way through a script, and whether every answer so far was the expected one.
-#[derive(Drop)]
+#[derive(Clone, Copy)]
 struct Trial {
     panel: Panel,
     same: bool,

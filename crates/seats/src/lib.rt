@@ -1,5 +1,7 @@
 // Document 01, "Numbers the panel answers": what the edits ask of one tag, its terminal and its blind; of tag after tag in
 // the call's own body, or of the tag that the call names. An absent tag carries nothing, whatever stands at its place.
+#![tactic(auto)]
+
 ghost use Rattle.std.specs.Prelude.{◌≡◌, not, ◌&&◌, [], ◌∷◌};
 ghost use Rattle.answers.specs.Answers.{refusal};
 ghost use Rattle.outputs.specs.Reports.{busy};

@@ -1,4 +1,6 @@
 // Document 01, "Sound", as far as it speaks of one blind: when a blind is sound, as a test of any contents.
+#![tactic(auto)]
+
 ghost use Rattle.std.specs.Prelude.{◌≡◌};
 ghost use Rattle.sound_blind.specs.Sound.{longest, sound_run, whole, sound_wait, sound_running, sound_motion, sound};
 

@@ -1,6 +1,8 @@
 // Document 01, "Edits", splices: terminals are put into the strip or taken out of it, and the terminals after them move.
 // Both ways are one: the first `down` terminals from t on are taken out, and those after them rise by `up` and fall by
 // `down`. One pass over the tags judges, one writes the terminals of the present tags; blinds, links and tags stay.
+#![tactic(auto)]
+
 ghost use Rattle.std.specs.Prelude.{◌+◌, ◌≤◌, ◌<◌, ◌≡◌, true, cond, [], ◌∷◌, eqb};
 ghost use Rattle.answers.specs.Answers.{refusal};
 ghost use Rattle.tags.specs.Tags.{tags_of};

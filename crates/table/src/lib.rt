@@ -1,5 +1,7 @@
 // Document 01, "Links and telegrams", and document 02, K4: the table of up to 512 links, one word for each, ascending by
 // address, tag and kind. Words are numbers, so whoever reads them is lent them; a panel or a table goes by value.
+#![tactic(auto)]
+
 
 pub mod search;
 pub mod soundness;
@@ -13,7 +15,7 @@ use link::words::UNUSED;
 pub const MOST: usize = 512;
 
 // The words from the count on are unused.
-#[derive(Drop)]
+#[derive(Clone, Copy)]
 pub struct Table {
     pub count: usize,
     pub words: [u32; MOST],

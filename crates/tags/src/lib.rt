@@ -1,5 +1,7 @@
 // Document 01, "Edits", inventory: the set of the tags that have a blind, as a 64-bit presence word.
 // Every call takes any number for a tag: one that no set can hold is in none, and changes none.
+#![tactic(auto)]
+
 
 ghost use Rattle.std.specs.Prelude.{◌≡◌};
 ghost use Rattle.tags.specs.Tags.{places, tags_of, none, put, taken, how_many, lowest_free};
@@ -10,7 +12,7 @@ pub const PLACES: u64 = 64;
 // The same, to count places by: one cell, and one place of an array, for each tag.
 pub const CELLS: usize = PLACES as usize;
 
-#[derive(Drop)]
+#[derive(Clone, Copy)]
 pub struct Tags {
     pub word: u64,
 }

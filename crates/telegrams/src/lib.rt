@@ -1,5 +1,7 @@
 // Document 01, "Links and telegrams": a telegram goes to every link of its address in table order, and answers how
 // many there were. It is judged as a whole before the first blind hears of it.
+#![tactic(auto)]
+
 ghost use Rattle.std.specs.Prelude.{◌<◌, ◌≤◌, ◌+◌, ◌≡◌, true, not, ◌∷◌, length, get_or};
 ghost use Rattle.laws.specs.Fills.{tabulate};
 ghost use Rattle.answers.specs.Answers.{refusal};
@@ -82,7 +84,7 @@ fn clear(cells: &mut [u16])
 }
 
 // The links that a telegram reaches, or the number that refuses it.
-#[derive(Drop)]
+#[derive(Clone, Copy)]
 struct Reach {
     answer: u8,
     start: usize,

@@ -1,5 +1,7 @@
 // Document 01, "What the panel is": a strip of 128 terminals (0 to 127). Which of them are taken is held in two words
 // of 64, so that one look tells whether a terminal is taken.
+#![tactic(auto)]
+
 ghost use Rattle.std.specs.Prelude.{◌≡◌};
 ghost use Rattle.tags.specs.Tags.{none, put};
 ghost use Rattle.terminals.specs.Strip.{terminals, taken_of};
@@ -12,7 +14,7 @@ pub const TERMINALS: u64 = 128;
 // The cells that a strip reading fills, one for each terminal.
 pub const STRIP: usize = TERMINALS as usize;
 
-#[derive(Drop)]
+#[derive(Clone, Copy)]
 pub struct Strip {
     low: Tags,
     high: Tags,

@@ -1,5 +1,7 @@
 // A text is put on a lent row of bytes from its front: each function is handed how far the sheet is filled and hands back
 // how far it is then. What does not fit is left out, so nobody has to make room beforehand.
+#![tactic(auto)]
+
 ghost use Rattle.std.specs.Prelude.{◌≡◌};
 ghost use Rattle.texts.specs.Sheet.{sheet, put as ofSheet·put, puts};
 

@@ -1,4 +1,6 @@
 // Document 01, "One millisecond": a time step of dt, 0 to 60,000, is dt milliseconds for every blind.
+#![tactic(auto)]
+
 ghost use Rattle.std.specs.Prelude.{◌≡◌, cond};
 ghost use Rattle.milliseconds.specs.Milliseconds.{milliseconds};
 ghost use Rattle.panel.specs.Calls.{row, Does};

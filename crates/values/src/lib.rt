@@ -1,4 +1,6 @@
 // Document 01, "Links and telegrams": what a kind with a value says to a blind.
+#![tactic(auto)]
+
 ghost use Rattle.std.specs.Prelude.{◌≡◌};
 ghost use Rattle.values.specs.Telegrams.{direction_of, forced_of, command_of, input_of};
 
@@ -8,7 +10,7 @@ use inputs::Command;
 use kinds::{FA, FO, MUD, RA, SSUD, STOP, WA};
 
 // Kinds 0 to 3: one of the flags, and what it becomes.
-#[derive(Drop)]
+#[derive(Clone, Copy)]
 pub enum Flag {
     Wind(bool),
     Rain(bool),
@@ -17,7 +19,7 @@ pub enum Flag {
 }
 
 // What a telegram says to a blind: kinds 0 to 3 set a flag, the others command.
-#[derive(Drop)]
+#[derive(Clone, Copy)]
 pub enum Input {
     Set(Flag),
     Command(Command),

@@ -1,4 +1,6 @@
 // What is said of a plant file in one line, without a panel at hand: that it is good and what it holds, or where it is bad.
+#![tactic(auto)]
+
 ghost use Rattle.std.specs.Prelude.{◌≡◌};
 ghost use Rattle.texts.specs.Sheet.{sheet, puts};
 ghost use Rattle.fields.specs.Lines.{line_text};

@@ -1,5 +1,7 @@
 // Document 02, K1, "Why didn't it move?": what the last link of a telegram would do to one blind, or why it would do
 // nothing. Nothing is sent, and nothing changes.
+#![tactic(auto)]
+
 ghost use Rattle.std.specs.Prelude.{◌≤◌, ◌-◌, ◌≡◌, true, length, take, drop};
 ghost use Rattle.link.specs.Link.{last_address, last_tag};
 ghost use Rattle.table.specs.Links.{links_in, held_in, links_to, links_of};
@@ -57,7 +59,7 @@ fn is_outside(tag: u64, address: u64, value: u64) -> bool
 }
 
 // Where some links stand: from the start on, before the end.
-#[derive(Drop)]
+#[derive(Clone, Copy)]
 struct Span {
     start: usize,
     end: usize,

@@ -2,6 +2,8 @@
 // moved, and judges the table; the panel adds what only it knows, whether its seats are sound, whether every link names
 // a blind, and whether the new link's blind is there. A refused call hands back the very panel. Terminals and blinds go to
 // their test by variables, and the words of the table's copy are lent: a panel that is lent from is copied once more.
+#![tactic(auto)]
+
 ghost use Rattle.std.specs.Prelude.{◌≡◌, not, [], ◌∷◌};
 ghost use Rattle.answers.specs.Answers.{first};
 ghost use Rattle.link.specs.Link.{link_of};

@@ -1,4 +1,6 @@
 // A line as words, parted by blanks: where the next word starts, where a word ends, and whether it is a certain one.
+#![tactic(auto)]
+
 ghost use Rattle.std.specs.Prelude.{◌≡◌, ◌+◌, drop};
 ghost use Rattle.texts.specs.Text.{same as ofText·same};
 ghost use Rattle.words.specs.Words.{front, belongs, blanks, letters};

@@ -1,6 +1,8 @@
 // The panel's calls, made so often that they can be timed: bench/run runs this beside bench/peer.c, which does the
 // same and must write the same lines. Arguments: call, case, blinds, links, turns, each a number. Without them each
 // call makes two turns in each case.
+#![tactic(auto)]
+
 mod bus_turns;
 mod edit_turns;
 mod file_turns;

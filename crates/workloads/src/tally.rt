@@ -5,7 +5,7 @@ use panel::Panel;
 use std::num::wrapping_add_u64;
 use tags::Tags;
 
-#[derive(Drop)]
+#[derive(Clone, Copy)]
 pub(crate) struct Tally {
     pub(crate) answer: u8,
     pub(crate) sum: u64,

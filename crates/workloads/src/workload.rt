@@ -56,7 +56,7 @@ const BAD_LINKS: u64 = 4;
 // A time step that is longer than any may be.
 const TOO_LONG: u64 = 60_001;
 
-#[derive(Drop)]
+#[derive(Clone, Copy)]
 pub(crate) struct Workload {
     pub(crate) call: u64,
     pub(crate) case: u64,

@@ -1,6 +1,8 @@
 // Document 01, "Edits": write the parameters of a blind. The call judges first and then does its work, on its own panel;
 // what judges gets numbers and a single blind. A refused call hands back the very panel. The place of a tag outside its
 // range is that of another, which is then not looked at.
+#![tactic(auto)]
+
 ghost use Rattle.panel.specs.Calls.{no_cells, Does};
 ghost use Rattle.params.specs.Numbers.{row_of};
 ghost use Rattle.writes.specs.Writes.{write_rule};
