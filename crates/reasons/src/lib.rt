@@ -94,7 +94,6 @@ impl Judged {
     }
 
     // From the last reason to the first: each stands back where the one before it holds.
-    #[tactic(auto, unfolding(crate::specs::Reasons::lacks_position))]
     pub fn reason(self, value: u8) -> Reason
         ensures { result ≡ reason_of value self }
     {
