@@ -1,13 +1,12 @@
 -- Where it ends early, no field after it could mend that.
 -- Assumes nothing.
-use Rattle.std.proofs.Common.{ap, ◌∙◌, arith, rules}
+use Rattle.std.proofs.Common.{ap, ◌∙◌, arith}
 use borrow.Author.Tests.{not-true, not-false}
 use Rattle.decimals.specs.Decimals.{plain_of}
 use Rattle.fields.specs.Lines.{tab}
 use Rattle.fields.specs.Heard.{all_kept}
 use Rattle.fields.proofs.FieldByField.{heard_more, heard_end}
 use Rattle.fields.proofs.Heard.{all_kept_lem, lost_form}
-use Rattle.fields.proofs.Turn.{turn_many}
 use Rattle.fields.proofs.numbers_of.Goals as goal
 
 pub returns-then-not-heard : goal.returns-then-not-heard
@@ -30,6 +29,3 @@ pub returns : goal.returns
 returns c =
     let whole = heard_end tab c.args.line.now c.loop-at.at plain_of c.loop-at.heard (omega arith) c.loop-at.invariant.1.1 in
     all_kept_lem c.loop-at.heard c.loop-at.invariant.0 c.loop-at.invariant.1.0 ∙ ap all_kept whole
-
-pub returns-then-heard-gt-MOST : goal.returns-then-heard-gt-MOST
-returns-then-heard-gt-MOST c = search (rules, turn_many)
