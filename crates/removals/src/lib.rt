@@ -22,6 +22,7 @@ use table::soundness::is_sound;
 use tags::PLACES;
 
 // Removes a blind and its links; refused by 12, 1, 2, 3, in this order.
+#[tactic(auto, unfolding(crate::specs::Removals::remove_rule))]
 pub fn remove_blind(mut panel: Panel, tag: u64) -> Answered
     ensures { Does (remove_rule tag) panel no_cells result no_cells }
 {
@@ -59,6 +60,7 @@ pub fn remove_blind(mut panel: Panel, tag: u64) -> Answered
 }
 
 // The table's own edit, which judges the table; where the blind refuses there is no edit, and the table is only judged.
+#[tactic(auto, unfolding(answers::specs::Answers::first))]
 fn drop_links(own: u8, table: Table, tag: u64) -> Edited
     ensures { (result.answer ≡ first own (unsound (held_of table) ∷ [])) × (own ≡ 0 → edited_of result ≡ edited (table_drop tag) (held_of table)) }
 {

@@ -20,6 +20,7 @@ use tags::{CELLS, Tags};
 use terminals::TERMINALS;
 
 // Splices n terminals in at t; refused by 12, 1, 3, 9, in this order.
+#[tactic(auto, unfolding(crate::specs::Splices::splice_in_rule))]
 pub fn splice_in(mut panel: Panel, t: u64, n: u64) -> Answered
     ensures { Does (splice_in_rule t n) panel no_cells result no_cells }
 {
@@ -35,6 +36,7 @@ pub fn splice_in(mut panel: Panel, t: u64, n: u64) -> Answered
 }
 
 // Splices n terminals out at t; refused by 12, 1, 10, 3, in this order.
+#[tactic(auto, unfolding(crate::specs::Splices::splice_out_rule))]
 pub fn splice_out(mut panel: Panel, t: u64, n: u64) -> Answered
     ensures { Does (splice_out_rule t n) panel no_cells result no_cells }
 {
@@ -50,6 +52,7 @@ pub fn splice_out(mut panel: Panel, t: u64, n: u64) -> Answered
 }
 
 // What refuses a splice, 0 if nothing does. It only reads the panel, and is small enough to become part of the calls.
+#[tactic(auto, unfolding(crate::specs::Places::splice_rule, seats::specs::Seats::in_use, seats::specs::Seats::busy_from, seats::specs::Seats::would_pass))]
 fn judge(panel: Panel, t: u64, n: u64, up: u64, down: u64) -> u8
     requires { down ≤ n }
     ensures { result ≡ refusal ((splice_rule t n up down).checks (model_of panel) no_cells) }
@@ -77,6 +80,7 @@ fn judge(panel: Panel, t: u64, n: u64, up: u64, down: u64) -> u8
 }
 
 // The number of what was met at a tag: a terminal in use, a busy blind, or a terminal that would pass the strip.
+#[tactic(auto, unfolding(answers::specs::Answers::first))]
 fn first_met(used: bool, busy: bool, past: bool) -> u8
     ensures { result ≡ refusal ((used, 10) ∷ (busy, 3) ∷ (past, 9) ∷ []) }
 {
@@ -90,6 +94,7 @@ fn first_met(used: bool, busy: bool, past: bool) -> u8
 }
 
 // Compared without a sum, which could wrap.
+#[tactic(auto, unfolding(crate::specs::Splices::off_strip))]
 fn is_off_strip(t: u64, n: u64) -> bool
     ensures { result ≡ off_strip t n }
 {
@@ -103,6 +108,7 @@ fn is_off_strip(t: u64, n: u64) -> bool
 }
 
 // The terminals of the present tags move if nothing refuses.
+#[tactic(auto, unfolding(crate::specs::Places::shifted_places))]
 fn shift_all(
     answer: u8,
     present: Tags,
@@ -126,6 +132,7 @@ fn shift_all(
 }
 
 // What stands at an absent tag's place stays.
+#[tactic(auto, unfolding(crate::specs::Places::moved))]
 fn shift(present: Tags, tag: usize, terminal: u8, t: u64, up: u64, down: u64) -> u8
     requires down_bound { t + down ≤ strip.terminals }
     requires up_bound { tags_of present tag ≡ true → t + down ≤ terminal → terminal + up < strip.terminals }
