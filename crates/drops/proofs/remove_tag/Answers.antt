@@ -1,4 +1,3 @@
--- drops/proofs/remove_tag/Answers.antt
 -- The test refuses an unsound table. Then the calls of each turn say whether a link stays, what it stores, whether it takes its place
 -- and whether it moves, and the record of the walk goes on.
 use Rattle.std.proofs.Common.{◌≡◌, ◌≤◌, true, refl, sym, ◌∙◌, arith, rules, length}

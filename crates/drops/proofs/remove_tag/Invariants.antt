@@ -1,4 +1,3 @@
--- drops/proofs/remove_tag/Invariants.antt
 -- The calls of each turn say whether a link stays, what it stores, whether it takes its place and whether it moves, and the record of the
 -- walk goes on.
 use Rattle.std.proofs.Common.{◌-◌}

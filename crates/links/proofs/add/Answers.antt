@@ -1,6 +1,5 @@
--- links/proofs/add/Answers.antt
 -- The test refuses an unsound table, the judge the rest; else the link goes to the place where the search for it ended.
-use Rattle.std.proofs.Common.{◌≡◌, true, refl, sym, ◌∙◌, rules}
+use Rattle.std.proofs.Common.{◌≡◌, ◌≤◌, true, refl, sym, ◌∙◌, arith, rules}
 use Rattle.answers.proofs.Rules.{refuse_with}
 use Rattle.table.specs.Links.{held_of}
 use Rattle.table.specs.Sound.{is_sound}
@@ -44,7 +43,9 @@ pub overflow_sub-result : goal.overflow_sub-result
 overflow_sub-result c =
     let t = c.args.table in
     let sound : is_sound (held_of t) ≡ true = sym c.is_sound.ensures ∙ c.if-not-is_sound.false in
-    place_low (held_of t) c.args.link sound (many t (search rules) (few t sound)) (link_searched t sound _ c.below-place.ensures c.word-word.ensures)
+    let low : c.below-place.result ≤ t.count =
+    place_low (held_of t) c.args.link sound (many t (search rules) (few t sound)) (link_searched t sound _ c.below-place.ensures c.word-word.ensures) in
+    omega arith
 
 pub returns : goal.returns
 returns c =

@@ -1,4 +1,3 @@
--- links/proofs/remove/Answers.antt
 -- The test refuses an unsound table, and a link that is not where the search for it ended is not there; else the links after it move down.
 use Rattle.std.proofs.Common.{◌≡◌, ◌<◌, true, not, refl, sym, ap, ◌∙◌, arith, rules}
 use Rattle.answers.proofs.Refusals.{refused_by_lem}

@@ -1,4 +1,3 @@
--- links/proofs/with_at/Answers.antt
 -- The words from the place up to i are copied one place up; then the new word is stored.
 use Rattle.std.proofs.Common.{◌≡◌, ◌+◌, arith, rules, length}
 use Rattle.laws.proofs.Copies.{copy_more}

@@ -1,4 +1,3 @@
--- links/proofs/with_at/Invariants.antt
 -- The words from the place up to i are copied one place up; then the new word is stored.
 use Rattle.std.proofs.Common.{◌≡◌, ◌-◌, ◌≤◌}
 use Rattle.links.proofs.Shifts.{up}

@@ -1,4 +1,3 @@
--- links/proofs/without_at/Answers.antt
 -- The words after the place, up to i, are copied one place down; then the place of the last one is unused.
 use Rattle.std.proofs.Common.{◌≡◌, ◌+◌, arith, rules, length}
 use Rattle.laws.proofs.Copies.{copy_more}

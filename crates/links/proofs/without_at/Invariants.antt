@@ -1,4 +1,3 @@
--- links/proofs/without_at/Invariants.antt
 -- The words after the place, up to i, are copied one place down; then the place of the last one is unused.
 use Rattle.std.proofs.Common.{◌≡◌, ◌+◌, ◌-◌, ◌≤◌}
 use Rattle.links.proofs.Shifts.{down}

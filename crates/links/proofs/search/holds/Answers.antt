@@ -1,4 +1,3 @@
--- links/proofs/search/holds/Answers.antt
 -- In links that ascend, a link can only stand where the search for it ended.
 use Rattle.std.proofs.Common.{◌≡◌, sym, ap, ap₂, ◌∙◌, arith, rules, length, get_or, eqb}
 use Rattle.link.specs.Link.{key_of, nothing}

@@ -1,4 +1,3 @@
--- links/proofs/search/other_class/Answers.antt
 -- The search by the first key of the address ends where its links start, if it has any; the word there has the class.
 use Rattle.std.proofs.Common.{◌≡◌, not, sym, ap, ap₂, ◌∙◌, arith, rules, length, get_or, eqb}
 use Rattle.link.specs.declared.Link.{Link}
