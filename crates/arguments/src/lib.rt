@@ -22,6 +22,7 @@ pub struct Arguments {
 }
 
 impl Arguments {
+    #[tactic(auto, unfolding(crate::specs::Arguments::nothing))]
     pub fn nothing() -> Arguments
         ensures { result ≡ nothing }
     {
@@ -33,6 +34,7 @@ impl Arguments {
     }
 
     // All words of a line from a place on.
+    #[tactic(auto, using(words::proofs::WordByWord::past_blanks, words::proofs::WordByWord::word_within, words::proofs::WordByWord::word_some, crate::proofs::Collected::heard_start))]
     pub fn of(line: &[u8], from: usize) -> Arguments
         ensures { result ≡ heard nothing (words (drop from line.now)) }
     {
@@ -48,6 +50,7 @@ impl Arguments {
     }
 
     // One word more.
+    #[tactic(auto, unfolding(crate::specs::Arguments::with))]
     pub fn with(self, word: Number) -> Arguments
         ensures { result ≡ with self word }
     {
@@ -61,6 +64,7 @@ impl Arguments {
         }
     }
 
+    #[tactic(auto, unfolding(crate::specs::Arguments::with))]
     fn with_value(self, value: u64) -> Arguments
         ensures { result ≡ with self (Number.Of value) }
     {

@@ -14,6 +14,7 @@ use runs::Last;
 use shows::numbers::put_spaced;
 use texts::put_text;
 
+#[tactic(auto, unfolding(texts::specs::Text::text, laws::specs::Fills::tabulate, crate::specs::BlindText::blind_text))]
 pub fn put_blind(out: &mut [u8], at: usize, tag: usize, terminal: u8, blind: Blind) -> usize
     ensures { sheet out.new result ≡ puts (blind_text tag terminal blind) (sheet out.old at) }
 {
@@ -27,6 +28,7 @@ pub fn put_blind(out: &mut [u8], at: usize, tag: usize, terminal: u8, blind: Bli
     put_motion(out, state, motion)
 }
 
+#[tactic(auto, unfolding(crate::specs::BlindText::set_text))]
 fn put_params(out: &mut [u8], at: usize, params: Params) -> usize
     ensures { sheet out.new result ≡ puts (set_text (numbers_of params)) (sheet out.old at) }
 {
@@ -38,6 +40,7 @@ fn put_params(out: &mut [u8], at: usize, params: Params) -> usize
     next
 }
 
+#[tactic(auto, unfolding(crate::specs::BlindText::state_text))]
 fn put_state(out: &mut [u8], at: usize, blind: Blind) -> usize
     ensures { sheet out.new result ≡ puts (state_text blind) (sheet out.old at) }
 {
@@ -51,6 +54,7 @@ fn put_state(out: &mut [u8], at: usize, blind: Blind) -> usize
     put_last(out, direction, last)
 }
 
+#[tactic(auto, unfolding(texts::specs::Text::text, laws::specs::Fills::tabulate, crate::specs::BlindText::position_text))]
 fn put_position(out: &mut [u8], at: usize, position: u32, valid: bool) -> usize
     ensures { sheet out.new result ≡ puts (position_text position valid) (sheet out.old at) }
 {
@@ -59,6 +63,7 @@ fn put_position(out: &mut [u8], at: usize, position: u32, valid: bool) -> usize
     put_either(out, place, valid, b" valid=1", b" valid=0")
 }
 
+#[tactic(auto, unfolding(texts::specs::Text::text, laws::specs::Fills::tabulate, crate::specs::BlindText::alarms_text))]
 fn put_alarms(out: &mut [u8], at: usize, flags: Flags) -> usize
     ensures { sheet out.new result ≡ puts (alarms_text flags) (sheet out.old at) }
 {
@@ -79,6 +84,7 @@ fn put_either(out: &mut [u8], at: usize, so: bool, yes: &[u8], no: &[u8]) -> usi
     }
 }
 
+#[tactic(auto, unfolding(crate::specs::BlindText::forced_text, texts::specs::Text::text, laws::specs::Fills::tabulate))]
 fn put_forced(out: &mut [u8], at: usize, forced: Forced) -> usize
     ensures { sheet out.new result ≡ puts (forced_text forced) (sheet out.old at) }
 {
@@ -89,6 +95,7 @@ fn put_forced(out: &mut [u8], at: usize, forced: Forced) -> usize
     }
 }
 
+#[tactic(auto, unfolding(crate::specs::BlindText::last_text, texts::specs::Text::text, laws::specs::Fills::tabulate))]
 fn put_last(out: &mut [u8], at: usize, last: Last) -> usize
     ensures { sheet out.new result ≡ puts (last_text last) (sheet out.old at) }
 {

@@ -9,6 +9,7 @@ use blind::{Blind, Flags, Forced, Motion};
 use heights::Direction;
 use runs::{Goal, Last, Run};
 
+#[tactic(auto, unfolding(crate::specs::Changes::changed))]
 pub fn is_changed(before: Blind, after: Blind) -> bool
     ensures { result ≡ changed before after }
 {
@@ -21,6 +22,7 @@ pub fn is_changed(before: Blind, after: Blind) -> bool
     !(flags & started & same_motion(motion, next))
 }
 
+#[tactic(auto, unfolding(crate::specs::Changes::same_flags))]
 fn same_flags(one: Flags, other: Flags) -> bool
     ensures { result ≡ same_flags one other }
 {
@@ -32,6 +34,7 @@ fn same_flags(one: Flags, other: Flags) -> bool
         & (forced_number(forced) == forced_number(other_forced))
 }
 
+#[tactic(auto, unfolding(crate::specs::Changes::same_motion))]
 fn same_motion(one: Motion, other: Motion) -> bool
     ensures { result ≡ same_motion one other }
 {
@@ -42,6 +45,7 @@ fn same_motion(one: Motion, other: Motion) -> bool
     }
 }
 
+#[tactic(auto, unfolding(crate::specs::Changes::is_off))]
 fn is_off(motion: Motion, rest: u32) -> bool
     ensures { result ≡ is_off rest motion }
 {
@@ -52,6 +56,7 @@ fn is_off(motion: Motion, rest: u32) -> bool
     }
 }
 
+#[tactic(auto, unfolding(crate::specs::Changes::is_waiting))]
 fn is_waiting(motion: Motion, rest: u32, run: Run) -> bool
     ensures { result ≡ is_waiting rest run motion }
 {
@@ -62,6 +67,7 @@ fn is_waiting(motion: Motion, rest: u32, run: Run) -> bool
     }
 }
 
+#[tactic(auto, unfolding(crate::specs::Changes::is_running))]
 fn is_running(motion: Motion, run: Run) -> bool
     ensures { result ≡ is_running run motion }
 {
@@ -72,6 +78,7 @@ fn is_running(motion: Motion, run: Run) -> bool
     }
 }
 
+#[tactic(auto, unfolding(crate::specs::Changes::same_run))]
 fn same_run(one: Run, other: Run) -> bool
     ensures { result ≡ same_run one other }
 {

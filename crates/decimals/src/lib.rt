@@ -23,6 +23,7 @@ pub enum Number {
 }
 
 // A number more on the sheet: what stands before its last digit, and then that digit.
+#[tactic(auto, using(crate::proofs::Digits::put_one, crate::proofs::Digits::put_more))]
 pub fn put_number(out: &mut [u8], at: usize, n: u64) -> usize
     ensures { sheet out.new result ≡ puts (decimal n) (sheet out.old at) }
 {
@@ -40,6 +41,7 @@ fn last_sign(n: u64) -> u8
 }
 
 // What a word says, read as a number.
+#[tactic(auto, using(crate::proofs::Reading::no_word, crate::proofs::Reading::a_word, crate::proofs::Reading::walk_refused, crate::proofs::Reading::walk_more, crate::proofs::Reading::walk_end, crate::proofs::Reading::has_64_bits))]
 pub fn read_number(word: &[u8]) -> Number
     ensures { result ≡ number_of word.now }
 {
@@ -57,6 +59,7 @@ pub fn read_number(word: &[u8]) -> Number
 }
 
 // What a word says, read as a number without leading zeros.
+#[tactic(auto, using(crate::proofs::Plain::short_plain, crate::proofs::Plain::zero_first, crate::proofs::Plain::other_first))]
 pub fn read_plain(word: &[u8]) -> Number
     ensures { result ≡ plain_of word.now }
 {
@@ -70,6 +73,7 @@ pub fn read_plain(word: &[u8]) -> Number
 }
 
 // The number with one byte more after it, if that is a digit and the value still fits: tested before it could wrap.
+#[tactic(auto, using(crate::proofs::Reading::below_digits, crate::proofs::Reading::above_digits, crate::proofs::Reading::too_large, crate::proofs::Reading::still_fits))]
 fn with_byte(value: u64, byte: u8) -> Number
     ensures { result ≡ number_after value (byte ∷ []) }
 {

@@ -3,3 +3,4 @@ pub mod FieldByField
 pub mod Heard
 pub mod Lines
 pub mod FieldsText
+pub mod Turn

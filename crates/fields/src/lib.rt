@@ -21,6 +21,7 @@ pub const ROOM: usize = 16_384;
 
 // The numbers of a line from the tab at this place on. Where a field is none, or is one more than are kept, no field after
 // it is read: no line of a file is like that, and rubbish may have a field for every byte.
+#[tactic(auto, using(rows::proofs::NextLine::place_within, crate::proofs::Turn::turn_many), unfolding(arguments::specs::Arguments::nothing))]
 pub fn numbers_of(line: &[u8], from: usize) -> Arguments
     ensures { result ≡ all_kept (heard_by plain_of nothing (parts_after tab (drop from line.now))) }
 {
@@ -42,6 +43,7 @@ pub fn numbers_of(line: &[u8], from: usize) -> Arguments
 }
 
 // What stands for every line that can be none of a file.
+#[tactic(auto, unfolding(crate::specs::Heard::no_line))]
 fn no_line() -> Arguments
     ensures { result ≡ no_line }
 {

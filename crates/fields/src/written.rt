@@ -20,6 +20,7 @@ pub fn put_fields(out: &mut [u8], at: usize, numbers: &[u64]) -> usize
 }
 
 // A line more: a word, its numbers, and the line feed.
+#[tactic(auto, using(crate::proofs::FieldsText::put_line))]
 pub fn put_line(out: &mut [u8], at: usize, word: &[u8], numbers: &[u64]) -> usize
     ensures { sheet out.new result ≡ puts (line_text (line word.now numbers.now)) (sheet out.old at) }
 {

@@ -15,6 +15,7 @@ pub(crate) const TAB: u8 = 9;
 pub(crate) const LINE_FEED: u8 = 10;
 
 // Whether a word is a file: each backslash begins a sign, and the sign is whole.
+#[tactic(auto, using(crate::proofs::Unpacking::judged_more, crate::proofs::Unpacking::judged_end), unfolding(crate::specs::FileWord::is_file))]
 pub fn is_file(word: &[u8]) -> bool
     ensures { result ≡ is_file word.now }
 {
@@ -27,6 +28,7 @@ pub fn is_file(word: &[u8]) -> bool
 }
 
 // Puts the bytes that a word stands for on a sheet, from its front.
+#[tactic(auto, unfolding(crate::specs::FileWord::unpacked))]
 pub fn unpack(word: &[u8], out: &mut [u8]) -> usize
     ensures { sheet out.new result ≡ puts (unpacked word.now) (sheet out.old 0) }
 {
@@ -51,6 +53,7 @@ pub fn put_packed(out: &mut [u8], at: usize, bytes: &[u8]) -> usize
     next
 }
 
+#[tactic(auto, unfolding(texts::specs::Text::text, laws::specs::Fills::tabulate, texts::specs::Sheet::puts, crate::specs::FileWord::packed_byte))]
 fn put_byte(out: &mut [u8], at: usize, byte: u8) -> usize
     ensures { sheet out.new result ≡ puts (packed_byte byte) (sheet out.old at) }
 {

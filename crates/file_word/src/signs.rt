@@ -52,6 +52,7 @@ impl Step {
     }
 
     // The byte that is given goes on the sheet.
+    #[tactic(auto, unfolding(texts::specs::Sheet::puts))]
     pub(crate) fn put_given(self, out: &mut [u8], at: usize) -> usize
         ensures { sheet out.new result ≡ puts (given self) (sheet out.old at) }
     {
@@ -63,6 +64,7 @@ impl Step {
 }
 
 impl Sign {
+    #[tactic(auto, unfolding(crate::specs::FileWord::is_over))]
     pub(crate) fn is_over(self) -> bool
         ensures { result ≡ is_over self }
     {
@@ -76,6 +78,7 @@ impl Sign {
     }
 
     // One byte more of the word.
+    #[tactic(auto, unfolding(crate::specs::FileWord::with))]
     pub(crate) fn with(self, byte: u8) -> Step
         ensures { result ≡ with self byte }
     {
@@ -90,6 +93,7 @@ impl Sign {
 }
 
 // A byte where no sign is open.
+#[tactic(auto, unfolding(crate::specs::FileWord::plain))]
 fn plain(byte: u8) -> Step
     ensures { result ≡ ofFileWord·plain byte }
 {
@@ -100,6 +104,7 @@ fn plain(byte: u8) -> Step
 }
 
 // The byte after a backslash.
+#[tactic(auto, unfolding(crate::specs::FileWord::lettered))]
 fn lettered(letter: u8) -> Step
     ensures { result ≡ ofFileWord·lettered letter }
 {
@@ -124,6 +129,7 @@ fn lettered(letter: u8) -> Step
     Step::goes_on(Sign::Bad)
 }
 
+#[tactic(auto, unfolding(crate::specs::FileWord::first_digit))]
 fn first_digit(high: u8) -> Step
     ensures { result ≡ first_digit high }
 {
@@ -133,6 +139,7 @@ fn first_digit(high: u8) -> Step
     Step::goes_on(Sign::Bad)
 }
 
+#[tactic(auto, unfolding(crate::specs::FileWord::second_digit))]
 fn second_digit(high: u8, low: u8) -> Step
     ensures { result ≡ second_digit high low }
 {
@@ -142,6 +149,7 @@ fn second_digit(high: u8, low: u8) -> Step
     Step::goes_on(Sign::Bad)
 }
 
+#[tactic(auto, unfolding(crate::specs::FileWord::is_hex))]
 fn is_hex(byte: u8) -> bool
     ensures { result ≡ is_hex byte }
 {
@@ -155,6 +163,7 @@ fn is_within(first: u8, byte: u8, last: u8) -> bool
 }
 
 // The value of a digit: a letter, capital or small, stands 9 further in its row of sixteen than its value.
+#[tactic(auto, unfolding(crate::specs::FileWord::hex_of))]
 fn hex_of(byte: u8) -> u8
     ensures value { result ≡ hex_of byte }
     ensures upper_bound { result < 16 }

@@ -124,7 +124,7 @@ impl Place {
     }
 
     // What a report tells of it.
-    #[tactic(auto, unfolding(crate::specs::Heights::told))]
+    #[tactic(auto, unfolding(crate::specs::Heights::told), using(crate::proofs::Told::told_fits))]
     pub fn told(self, params: Params) -> u64
         ensures { result ≡ told params self }
     {

@@ -9,6 +9,7 @@ use heights::{Direction, Way, full_time, target};
 use params::Params;
 use runs::{Goal, Run};
 
+#[tactic(auto, unfolding(crate::specs::Inputs::acted))]
 pub fn act(blind: Blind, command: Command) -> Blind
     ensures { result ≡ acted command blind }
 {
@@ -20,6 +21,7 @@ pub fn act(blind: Blind, command: Command) -> Blind
     }
 }
 
+#[tactic(auto, unfolding(crate::specs::Inputs::mud))]
 pub fn mud(blind: Blind, direction: Direction) -> Blind
     ensures { result ≡ mud direction blind }
 {
@@ -36,6 +38,7 @@ fn full_run(params: Params, direction: Direction) -> Run
     }
 }
 
+#[tactic(auto, unfolding(crate::specs::Inputs::ssud))]
 fn ssud(blind: Blind, direction: Direction) -> Blind
     ensures { result ≡ ssud direction blind }
 {
@@ -79,12 +82,14 @@ fn is_step(run: Run) -> bool
     }
 }
 
+#[tactic(auto, unfolding(crate::specs::Inputs::sapbp))]
 fn sapbp(blind: Blind, v: u8) -> Blind
     ensures { result ≡ sapbp v blind }
 {
     follow(blind, aim(blind, v))
 }
 
+#[tactic(auto, unfolding(crate::specs::Inputs::followed))]
 fn follow(blind: Blind, aim: Aim) -> Blind
     ensures { result ≡ followed aim blind }
 {
@@ -95,6 +100,7 @@ fn follow(blind: Blind, aim: Aim) -> Blind
     }
 }
 
+#[tactic(auto, unfolding(crate::specs::Inputs::towards))]
 fn towards(blind: Blind, way: Way) -> Blind
     ensures { result ≡ towards way blind }
 {
@@ -109,6 +115,7 @@ fn towards(blind: Blind, way: Way) -> Blind
 }
 
 // An end is a full run, whatever the position; anything between is a run to its target.
+#[tactic(auto, unfolding(crate::specs::Inputs::aimed))]
 pub fn aim(blind: Blind, v: u8) -> Aim
     ensures { result ≡ aimed v blind }
 {
@@ -121,6 +128,7 @@ pub fn aim(blind: Blind, v: u8) -> Aim
     aim_between(blind, v)
 }
 
+#[tactic(auto, unfolding(crate::specs::Inputs::aimed_between))]
 fn aim_between(blind: Blind, v: u8) -> Aim
     ensures { result ≡ aimed_between v blind }
 {

@@ -1,7 +1,6 @@
 // Document 01, "Links and telegrams": a link is (address 1 to 65535, tag, input kind).
 #![tactic(auto)]
 
-
 pub mod words;
 
 ghost use Rattle.std.specs.Prelude.{◌≡◌};
@@ -40,6 +39,7 @@ impl Link {
     };
 
     // Whether these numbers are a link's.
+    #[tactic(auto, unfolding(crate::specs::Link::in_range))]
     pub fn fits(address: u64, tag: u64, kind: u64) -> bool
         ensures { result ≡ in_range (link_of address tag kind) }
     {
@@ -47,6 +47,7 @@ impl Link {
     }
 
     // The link of these numbers; what does not fit gives the link that no table holds.
+    #[tactic(auto, unfolding(crate::specs::Link::link_made))]
     pub fn made(address: u64, tag: u64, kind: u64) -> Link
         ensures { result ≡ link_made address tag kind }
     {
@@ -61,6 +62,7 @@ impl Link {
     }
 
     // Whether none of its numbers is past its last one; an address of 0 is let through.
+    #[tactic(auto, unfolding(crate::specs::Link::is_below_ends))]
     pub fn below_ends(self) -> bool
         ensures { result ≡ is_below_ends self }
     {

@@ -26,6 +26,7 @@ pub const NO_ADDRESS: u32 = ADDRESSES - 1;
 
 impl Link {
     // The word of a link.
+    #[tactic(auto, unfolding(crate::specs::Link::key_of))]
     pub fn word(self) -> u32
         ensures { result ≡ key_of self }
     {
@@ -33,6 +34,7 @@ impl Link {
     }
 
     // The link of a word, whether it is in range or not.
+    #[tactic(auto, unfolding(crate::specs::Link::of_word))]
     pub fn of(word: u32) -> Link
         ensures { result ≡ of_word word }
     {
@@ -45,6 +47,7 @@ impl Link {
 }
 
 // The tag of a word.
+#[tactic(auto, unfolding(crate::specs::Link::of_word))]
 pub fn tag_in(word: u32) -> u64
     ensures { result ≡ (of_word word).tag }
 {
@@ -52,6 +55,7 @@ pub fn tag_in(word: u32) -> u64
 }
 
 // The class of a word's kind.
+#[tactic(auto, unfolding(crate::specs::Link::of_word))]
 pub fn class_in(word: u32) -> u32
     ensures { result ≡ class_of (of_word word).kind }
 {
@@ -60,6 +64,7 @@ pub fn class_in(word: u32) -> u32
 
 // 1 where a word may not stand right after another one, of its class or not, else 0: a number to add up, with no branch
 // to take. Where the one before has an address, so has every word above it.
+#[tactic(auto, unfolding(crate::specs::Link::of_word))]
 pub fn clash(word: u32, last: u32, alike: bool) -> u32
     ensures { result ≡ cond (is_below_ends (of_word word) && ltb last word && (not (eqb (of_word word).address (of_word last).address) || alike)) 0 1 }
 {

@@ -18,6 +18,7 @@ pub fn milliseconds(blind: Blind, dt: u64) -> Blind
     }
 }
 
+#[tactic(auto, unfolding(crate::specs::Milliseconds::milliseconds))]
 fn one_by_one(mut blind: Blind, dt: u64) -> Blind
     ensures { result ≡ milliseconds dt blind }
 {
@@ -28,6 +29,7 @@ fn one_by_one(mut blind: Blind, dt: u64) -> Blind
 }
 
 // Until its last millisecond a run changes the place and its length alone, so only these are worked on.
+
 fn run_on(blind: Blind, run: Run, dt: u64) -> Blind
     requires { blind.motion ≡ Motion.Runs run }
     ensures { result ≡ milliseconds dt blind }

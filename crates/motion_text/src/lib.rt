@@ -21,6 +21,7 @@ pub fn put_motion(out: &mut [u8], at: usize, motion: Motion) -> usize
     }
 }
 
+#[tactic(auto, unfolding(texts::specs::Text::text, laws::specs::Fills::tabulate, crate::specs::MotionText::motion_text))]
 fn put_off(out: &mut [u8], at: usize, rest: u32) -> usize
     ensures { sheet out.new result ≡ puts (motion_text (Motion.Off rest)) (sheet out.old at) }
 {
@@ -29,6 +30,7 @@ fn put_off(out: &mut [u8], at: usize, rest: u32) -> usize
     put_text(out, time, b" run=- wait=-")
 }
 
+#[tactic(auto, unfolding(texts::specs::Text::text, laws::specs::Fills::tabulate, crate::specs::MotionText::motion_text))]
 fn put_waits(out: &mut [u8], at: usize, rest: u32, run: Run) -> usize
     ensures { sheet out.new result ≡ puts (motion_text (Motion.Waits rest run)) (sheet out.old at) }
 {
@@ -39,6 +41,7 @@ fn put_waits(out: &mut [u8], at: usize, rest: u32, run: Run) -> usize
 }
 
 // While running the rest time is 0.
+#[tactic(auto, unfolding(texts::specs::Text::text, laws::specs::Fills::tabulate, crate::specs::MotionText::motion_text))]
 fn put_runs(out: &mut [u8], at: usize, run: Run) -> usize
     ensures { sheet out.new result ≡ puts (motion_text (Motion.Runs run)) (sheet out.old at) }
 {
@@ -47,6 +50,7 @@ fn put_runs(out: &mut [u8], at: usize, run: Run) -> usize
     put_text(out, running, b" wait=-")
 }
 
+#[tactic(auto, unfolding(crate::specs::MotionText::run_text))]
 fn put_run(out: &mut [u8], at: usize, run: Run) -> usize
     ensures { sheet out.new result ≡ puts (run_text run) (sheet out.old at) }
 {
@@ -57,6 +61,7 @@ fn put_run(out: &mut [u8], at: usize, run: Run) -> usize
     put_number(out, sort, run.length as u64)
 }
 
+#[tactic(auto, unfolding(crate::specs::MotionText::direction_text, texts::specs::Text::text, laws::specs::Fills::tabulate))]
 fn put_direction(out: &mut [u8], at: usize, direction: Direction) -> usize
     ensures { sheet out.new result ≡ puts (direction_text direction) (sheet out.old at) }
 {
@@ -66,6 +71,7 @@ fn put_direction(out: &mut [u8], at: usize, direction: Direction) -> usize
     }
 }
 
+#[tactic(auto, unfolding(crate::specs::MotionText::goal_text, texts::specs::Text::text, laws::specs::Fills::tabulate))]
 fn put_goal(out: &mut [u8], at: usize, goal: Goal) -> usize
     ensures { sheet out.new result ≡ puts (goal_text goal) (sheet out.old at) }
 {

@@ -54,6 +54,7 @@ impl Entry {
     }
 
     // What is known of a word.
+    #[tactic(auto, unfolding(texts::specs::Text::text, laws::specs::Fills::tabulate, crate::specs::Names::entry_in, crate::specs::Names::entry_of))]
     pub fn of(word: &[u8]) -> Entry
         ensures { result ≡ entry_of word.now }
     {
@@ -77,6 +78,7 @@ impl Entry {
     }
 
     // The command of these letters if the word is these, and otherwise what is known already.
+    #[tactic(auto, unfolding(crate::specs::Names::entry_for))]
     fn or(self, word: &[u8], letters: &[u8], name: Name, plain: u8, more: u8) -> Entry
         ensures { result ≡ entry_for word.now letters.now (taking name plain more) self }
     {
@@ -93,6 +95,7 @@ impl Entry {
     }
 
     // Whether this number of arguments is taken.
+    #[tactic(auto, using(crate::proofs::Taking::plain_taken, crate::proofs::Taking::by_more))]
     pub fn takes(self, count: usize) -> bool
         ensures { result ≡ ofNames·takes self count }
     {

@@ -12,6 +12,7 @@ use runs::Run;
 // What a cell holds where a blind has nothing to report.
 pub const NO_REPORT: u16 = 512;
 
+#[tactic(auto, unfolding(crate::specs::Reports::motor_of))]
 pub fn motor(blind: Blind) -> u8
     ensures { result ≡ motor_of blind }
 {
@@ -23,6 +24,7 @@ pub fn motor(blind: Blind) -> u8
     }
 }
 
+#[tactic(auto, unfolding(crate::specs::Reports::busy))]
 pub fn is_busy(blind: Blind) -> bool
     ensures { result ≡ busy blind }
 {
@@ -35,6 +37,7 @@ pub fn is_busy(blind: Blind) -> bool
 }
 
 // Nothing is told on the way: a position is told when the motion that a call found is over.
+#[tactic(auto, unfolding(crate::specs::Reports::report))]
 pub fn report(before: Blind, after: Blind) -> u64
     ensures { result ≡ report before after }
 {
@@ -57,6 +60,7 @@ pub fn cell(there: bool, before: Blind, after: Blind) -> u64
 }
 
 // Running or waiting.
+#[tactic(auto, unfolding(crate::specs::Reports::active))]
 pub fn is_active(blind: Blind) -> bool
     ensures { result ≡ active blind }
 {

@@ -96,6 +96,7 @@ module _ (value kind : ℕ) (b : Blind) where
             changed = changed;
             no_order = λ rest x. order (subst (λ (n : ℕ). WaitsFor n it.after.motion) (sym (left_told x)) x);
           }
+      reads (later class (later w (later r (later f (later o (later p (later order (later _ last)))))))) = elim last [ ]
 
       unruled : Acted value it → {ruler : Ruler} → (ruler ≡ Ruler.Nobody → ⊥) → Under ruler it → ⊥
       unruled a somebody d = a.changed (under_keeps somebody d)

@@ -8,6 +8,7 @@ use duties::rulers::duty;
 use heights::Place;
 use params::Params;
 
+#[tactic(auto, unfolding(crate::specs::Edits::rewritten))]
 pub fn rewrite(blind: Blind, params: Params) -> Blind
     ensures { result ≡ rewritten params blind }
 {

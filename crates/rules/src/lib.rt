@@ -16,6 +16,7 @@ use inputs::Command;
 use inputs::orders::{act, mud};
 use values::{Flag, Input};
 
+#[tactic(auto, unfolding(crate::specs::Rules::heeded))]
 pub fn heed(blind: Blind, input: Input) -> Blind
     ensures { result ≡ heeded input blind }
 {
@@ -25,6 +26,7 @@ pub fn heed(blind: Blind, input: Input) -> Blind
     }
 }
 
+#[tactic(auto, unfolding(crate::specs::Rules::flagged))]
 fn set(blind: Blind, flag: Flag) -> Blind
     ensures { result ≡ flagged flag blind }
 {
@@ -45,6 +47,7 @@ fn with_flag(flags: Flags, flag: Flag) -> Flags
 }
 
 // A blind whose flags or parameters are new: only a duty that is another one now brings an order.
+#[tactic(auto, unfolding(crate::specs::Rules::ruled))]
 pub(crate) fn ruled(blind: Blind, before: Duty) -> Blind
     ensures { result ≡ ruled before blind }
 {
@@ -54,6 +57,7 @@ pub(crate) fn ruled(blind: Blind, before: Duty) -> Blind
 }
 
 // Not by way of `act`: asked in one place alone, `act` is compiled into a telegram's loop, which halves the time of a link.
+#[tactic(auto, unfolding(inputs::specs::Inputs::acted))]
 fn obey(blind: Blind, duty: Duty) -> Blind
     ensures { result ≡ acted (order_of duty) blind }
 {
@@ -66,6 +70,7 @@ fn obey(blind: Blind, duty: Duty) -> Blind
 }
 
 // A command under another duty is dropped for good: nothing of it is kept.
+#[tactic(auto, unfolding(crate::specs::Rules::commanded))]
 fn command_free(blind: Blind, command: Command) -> Blind
     ensures { result ≡ commanded command blind }
 {

@@ -9,6 +9,7 @@ use decimals::put_number;
 use texts::put_text;
 
 // The answer of a call that was lent cells. A cell that holds the idle value says nothing.
+#[tactic(auto, using(texts::proofs::Sheet::put_joined, texts::proofs::Sheet::put_first, texts::proofs::Sheet::put_second), unfolding(crate::specs::Cells::counted_with, texts::specs::Text::text, laws::specs::Fills::tabulate))]
 pub fn put_with_cells(
     out: &mut [u8],
     at: usize,
@@ -27,6 +28,7 @@ pub fn put_with_cells(
     }
 }
 
+#[tactic(auto, using(texts::proofs::Sheet::each_none, texts::proofs::Sheet::each_turn, texts::proofs::Sheet::each_all), unfolding(crate::specs::Cells::cells_text))]
 fn put_cells(out: &mut [u8], at: usize, idle: u16, cells: &[u16]) -> usize
     ensures { sheet out.new result ≡ puts (cells_text idle cells.now) (sheet out.old at) }
 {
@@ -37,6 +39,7 @@ fn put_cells(out: &mut [u8], at: usize, idle: u16, cells: &[u16]) -> usize
     next
 }
 
+#[tactic(auto, unfolding(crate::specs::Cells::cell_text, texts::specs::Sheet::puts))]
 fn put_cell(out: &mut [u8], at: usize, idle: u16, place: usize, cell: u16) -> usize
     ensures { sheet out.new result ≡ puts (cell_text idle place cell) (sheet out.old at) }
 {
@@ -46,6 +49,7 @@ fn put_cell(out: &mut [u8], at: usize, idle: u16, place: usize, cell: u16) -> us
     put_shown(out, at, place as u64, cell as u64)
 }
 
+#[tactic(auto, using(texts::proofs::Sheet::put_joined), unfolding(texts::specs::Text::text, laws::specs::Fills::tabulate, crate::specs::Cells::cell_shown))]
 fn put_shown(out: &mut [u8], at: usize, place: u64, cell: u64) -> usize
     ensures { sheet out.new result ≡ puts (cell_shown place cell) (sheet out.old at) }
 {

@@ -7,6 +7,7 @@ use decimals::put_number;
 use texts::put_text;
 
 // A number with a space before it.
+#[tactic(auto, using(texts::proofs::Sheet::put_joined), unfolding(texts::specs::Text::text, laws::specs::Fills::tabulate, crate::specs::Numbers::spaced))]
 pub fn put_spaced(out: &mut [u8], at: usize, n: u64) -> usize
     ensures { sheet out.new result ≡ puts (spaced n) (sheet out.old at) }
 {
@@ -14,6 +15,7 @@ pub fn put_spaced(out: &mut [u8], at: usize, n: u64) -> usize
     put_number(out, space, n)
 }
 
+#[tactic(auto, using(texts::proofs::Sheet::put_joined), unfolding(crate::specs::Numbers::counted))]
 pub fn put_counted(out: &mut [u8], at: usize, number: u8, count: u64) -> usize
     ensures { sheet out.new result ≡ puts (counted number count) (sheet out.old at) }
 {

@@ -9,6 +9,7 @@ use heights::{bottom, full_time};
 use params::Params;
 use runs::{Goal, Last, Run};
 
+#[tactic(auto, unfolding(crate::specs::Sound::sound))]
 pub fn is_sound(blind: Blind) -> bool
     ensures { result ≡ sound blind }
 {
@@ -24,6 +25,7 @@ pub fn is_sound(blind: Blind) -> bool
     allows(params, last, motion)
 }
 
+#[tactic(auto, unfolding(crate::specs::Sound::sound_motion))]
 fn allows(params: Params, last: Last, motion: Motion) -> bool
     ensures { result ≡ sound_motion params last motion }
 {
@@ -34,6 +36,7 @@ fn allows(params: Params, last: Last, motion: Motion) -> bool
     }
 }
 
+#[tactic(auto, unfolding(crate::specs::Sound::sound_wait))]
 fn allows_wait(params: Params, last: Last, rest: u32, run: Run) -> bool
     ensures { result ≡ sound_wait params last rest run }
 {
@@ -52,6 +55,7 @@ fn allows_wait(params: Params, last: Last, rest: u32, run: Run) -> bool
     !run.goes_on(last)
 }
 
+#[tactic(auto, unfolding(crate::specs::Sound::sound_running))]
 fn allows_running(params: Params, last: Last, run: Run) -> bool
     ensures { result ≡ sound_running params last run }
 {

@@ -5,15 +5,14 @@ use native.Mathlib.Omega.{arith}
 use native.Mathlib.Decide.{dec_lt}
 use mathlib.Core.Path.{◌≡◌, refl, sym, ap, ◌∙◌}
 use mathlib.Core.Bool.{Bool, false, cond, ◌&&◌}
-use mathlib.Core.List.{List, []}
-use lib.ListN.{length, get_or, take, length-take, get_or-eq_default}
+use mathlib.Core.List.{[]}
+use lib.ListN.{get_or, take, length-take, get_or-eq_default}
 use lib.Seq.{get_or-take, ext_get_or}
 use lib.Dec.{ltb, leb}
 use borrow.Author.Tests.{lt-ltb, le-ltb}
 use Rattle.laws.proofs.Choices.{is_false}
 use Rattle.laws.proofs.Outcomes.{one_answer}
 use Rattle.laws.proofs.Fills.{tabulate_length, tabulate_at}
-use Rattle.link.specs.declared.Link.{Link}
 use Rattle.link.specs.Link.{nothing, key_of, of_word, Fits}
 use Rattle.link.proofs.Packed.{link_back, unused_word}
 use Rattle.table.specs.declared.Table.{Table}

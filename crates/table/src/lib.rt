@@ -2,7 +2,6 @@
 // address, tag and kind. Words are numbers, so whoever reads them is lent them; a panel or a table goes by value.
 #![tactic(auto)]
 
-
 pub mod search;
 pub mod soundness;
 
@@ -23,6 +22,7 @@ pub struct Table {
 
 impl Table {
     // The table without links.
+    #[tactic(auto, unfolding(laws::specs::Every::every))]
     pub fn empty() -> Table
         ensures { held_of result ≡ holding [] }
     {

@@ -2,7 +2,6 @@
 // Every call takes any number for a tag: one that no set can hold is in none, and changes none.
 #![tactic(auto)]
 
-
 ghost use Rattle.std.specs.Prelude.{◌≡◌};
 ghost use Rattle.tags.specs.Tags.{places, tags_of, none, put, taken, how_many, lowest_free};
 
@@ -26,6 +25,7 @@ impl Tags {
     }
 
     // Whether a tag is in the set.
+    #[tactic(auto, unfolding(crate::specs::Tags::member))]
     pub fn has(self, tag: u64) -> bool
         ensures { result ≡ tags_of self tag }
     {

@@ -6,6 +6,7 @@ ghost use Rattle.std.specs.Prelude.{◌≡◌};
 ghost use Rattle.texts.specs.Sheet.{sheet, put as ofSheet·put, puts};
 
 // One byte more.
+#[tactic(auto, unfolding(crate::specs::Sheet::put))]
 pub fn put(out: &mut [u8], at: usize, byte: u8) -> usize
     ensures { sheet out.new result ≡ ofSheet·put byte (sheet out.old at) }
 {

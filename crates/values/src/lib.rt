@@ -26,6 +26,7 @@ pub enum Input {
 }
 
 impl Input {
+    #[tactic(auto, unfolding(crate::specs::Telegrams::input_of))]
     pub fn of(kind: u8, value: u8) -> Input
         ensures { result ≡ input_of kind value }
     {
@@ -39,6 +40,7 @@ impl Input {
     }
 }
 
+#[tactic(auto, unfolding(crate::specs::Telegrams::command_of))]
 fn command_of(kind: u8, value: u8) -> Command
     ensures { result ≡ command_of kind value }
 {

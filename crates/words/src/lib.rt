@@ -37,6 +37,7 @@ fn past(line: &[u8], from: usize, word: bool) -> usize
     at
 }
 
+#[tactic(auto, unfolding(crate::specs::Words::is_blank))]
 fn is_part(byte: u8, word: bool) -> bool
     ensures { result ≡ belongs word byte }
 {
