@@ -2,8 +2,10 @@
 // name, tab, `same` or `differs`.
 #![tactic(auto)]
 
-fn main() {
+fn main(rt: HostRuntime) {
     numbered::write(
+        &mut rt.stdout(),
+        &mut rt.stderr(),
         b"install 5 9 = 0 0\n",
         b"cases: a line could not be written\n",
     );

@@ -3,8 +3,10 @@
 // the same here too.
 #![tactic(auto)]
 
-fn main() {
+fn main(rt: HostRuntime) {
     numbered::write(
+        &mut rt.stdout(),
+        &mut rt.stderr(),
         b"install 5 9 60000 200 501 2 1 1 = 0 0\n",
         b"cases_late: a line could not be written\n",
     );

@@ -3,6 +3,8 @@
 
 ghost use Rattle.std.specs.Prelude.{◌≤◌, length};
 
+use std::io::Read;
+
 // How many bytes there are, and whether a read failed.
 #[derive(Clone, Copy)]
 pub struct Heard {
@@ -11,7 +13,7 @@ pub struct Heard {
 }
 
 // Reads once, after the bytes that are kept; 0 where none came.
-pub fn fetch(file: i32, bytes: &mut [u8], kept: usize) -> Heard
+pub fn fetch<R: Read>(file: &mut R, bytes: &mut [u8], kept: usize) -> Heard
     ensures { result.«have» ≤ length bytes.new }
 {
     if bytes.len() <= kept {
@@ -20,22 +22,24 @@ pub fn fetch(file: i32, bytes: &mut [u8], kept: usize) -> Heard
             failed: false,
         };
     }
-    let got = libc::read(file, &mut bytes[kept..]);
-    let more = io::count(got, &bytes[kept..]);
-    if more == 0 {
-        return Heard {
+    match file.read(&mut bytes[kept..]) {
+        Ok(0) => Heard {
             have: 0,
-            failed: got < 0,
-        };
-    }
-    Heard {
-        have: kept + more,
-        failed: false,
+            failed: false,
+        },
+        Ok(more) => Heard {
+            have: kept + more,
+            failed: false,
+        },
+        Err(_) => Heard {
+            have: 0,
+            failed: true,
+        },
     }
 }
 
 // Reads to the end, or as many bytes as the row takes.
-pub fn fetch_all(file: i32, bytes: &mut [u8]) -> Heard
+pub fn fetch_all<R: Read>(file: &mut R, bytes: &mut [u8]) -> Heard
     ensures { result.«have» ≤ length bytes.new }
 {
     let mut have = 0;

@@ -12,6 +12,7 @@ use panel::Panel;
 use panel::calls::Answered;
 use params::Asked;
 use readings::strips::strip;
+use std::io::Print;
 use tags::CELLS;
 use telegrams::telegram;
 use terminals::STRIP;
@@ -30,36 +31,36 @@ const EVENTS: u64 = 8;
 // A motor that is off.
 pub(crate) const OFF: u8 = 0;
 
-fn main() {
-    let mut panel = fitted();
+fn main(rt: HostRuntime) {
+    let mut panel = fitted(&rt);
     for place in 0..EVENTS {
-        panel = turn(panel, next_event(place));
+        panel = turn(&rt, panel, next_event(place));
     }
 }
 
 // Blind 0 at terminal 4 and blind 1 at terminal 7; address 100 is the wind alarm of both, 300 their button.
-fn fitted() -> Panel {
+fn fitted<R: Print>(rt: &R) -> Panel {
     let set = Asked::default_set();
     let short = Asked {
         mudt: 20_000,
         ..set
     };
-    let one = accepted(install(Panel::empty(), 0, 4, set));
-    let two = accepted(install(one, 1, 7, short));
-    let windy = linked(two, 100, WA);
-    linked(windy, 300, MUD)
+    let one = accepted(rt, install(Panel::empty(), 0, 4, set));
+    let two = accepted(rt, install(one, 1, 7, short));
+    let windy = linked(rt, two, 100, WA);
+    linked(rt, windy, 300, MUD)
 }
 
-fn linked(panel: Panel, address: u64, kind: u8) -> Panel {
-    let first = accepted(add_link(panel, address, 0, kind as u64));
-    accepted(add_link(first, address, 1, kind as u64))
+fn linked<R: Print>(rt: &R, panel: Panel, address: u64, kind: u8) -> Panel {
+    let first = accepted(rt, add_link(panel, address, 0, kind as u64));
+    accepted(rt, add_link(first, address, 1, kind as u64))
 }
 
 // An edit that is refused leaves the panel as it was; a device would tell whoever asked for it.
-fn accepted(done: Answered) -> Panel {
+fn accepted<R: Print>(rt: &R, done: Answered) -> Panel {
     if done.answer != DONE {
-        write_field(b"refused ", done.answer as u64);
-        end_line();
+        write_field(rt, b"refused ", done.answer as u64);
+        end_line(rt);
     }
     done.panel
 }
@@ -79,16 +80,16 @@ fn next_event(place: u64) -> Event {
 }
 
 // One event and what comes of it. Refused calls leave the cells as they are here: nothing to report, every relay off.
-fn turn(panel: Panel, event: Event) -> Panel {
+fn turn<R: Print>(rt: &R, panel: Panel, event: Event) -> Panel {
     let mut reports = [NO_REPORT; CELLS];
     let mut motors = [OFF; STRIP];
     let heard = heed(panel, event, &mut reports);
-    write_field(b"answer ", heard.answer as u64);
-    write_field(b" count ", heard.count);
-    hand_on(&reports);
+    write_field(rt, b"answer ", heard.answer as u64);
+    write_field(rt, b" count ", heard.count);
+    hand_on(rt, &reports);
     let read = strip(heard.panel, &mut motors);
-    drive(&motors);
-    end_line();
+    drive(rt, &motors);
+    end_line(rt);
     read.panel
 }
 
@@ -100,15 +101,15 @@ fn heed(panel: Panel, event: Event, reports: &mut [u16]) -> Answered {
 }
 
 // A device would send each report on the bus.
-fn hand_on(reports: &[u16]) {
+fn hand_on<R: Print>(rt: &R, reports: &[u16]) {
     for tag in 0..reports.len() {
-        write_report(tag as u64, reports[tag]);
+        write_report(rt, tag as u64, reports[tag]);
     }
 }
 
 // A device would set the relays of each terminal.
-fn drive(motors: &[u8]) {
+fn drive<R: Print>(rt: &R, motors: &[u8]) {
     for terminal in 0..motors.len() {
-        write_motor(terminal as u64, motors[terminal]);
+        write_motor(rt, terminal as u64, motors[terminal]);
     }
 }

@@ -5,13 +5,16 @@
 mod limits;
 
 use crate::limits::{LIMITS, full_table};
-use libc::{STDERR_FILENO, STDOUT_FILENO};
 use rows::{least, line_end, place_of};
 use scripts::holds;
+use std::io::Write;
 use texts::put_text;
 
 // A case begins with this mark and its name; its script goes on to the next mark.
 const MARK: u8 = b'@';
+
+// The size of the row in which a script is written, and of the sheet for its answers.
+const BUFFER: usize = 65_536;
 
 const WORKED: [u8; 5059] = *b"@W1
 # MUD 0, then 499 ms: off. 1 ms more: up.
@@ -157,31 +160,37 @@ link 107 5 7 = 0 0
 
 // Runs all cases. The blind of the cases is installed by this line, so that a wrong build can be tried too. Where a line
 // of the cases cannot be written, that is said in these words.
-pub fn write(install: &[u8], failure: &[u8]) {
-    let mut row = io::large_buffer();
-    let mut sheet = io::large_buffer();
-    if !run_all(install, &mut row, &mut sheet) {
-        io::write_all(STDERR_FILENO, failure);
+pub fn write<O: Write, E: Write>(out: &mut O, err: &mut E, install: &[u8], failure: &[u8]) {
+    let mut row = [0u8; BUFFER];
+    let mut sheet = [0u8; BUFFER];
+    if !run_all(out, install, &mut row, &mut sheet) {
+        let _ = err.write_all(failure);
     }
 }
 
 // Hands back whether the lines went through; the first that does not is the last.
-fn run_all(install: &[u8], row: &mut [u8], sheet: &mut [u8]) -> bool {
-    if !run(&WORKED, install, row, sheet) {
+fn run_all<O: Write>(out: &mut O, install: &[u8], row: &mut [u8], sheet: &mut [u8]) -> bool {
+    if !run(out, &WORKED, install, row, sheet) {
         return false;
     }
-    if !full_table(install, row, sheet) {
+    if !full_table(out, install, row, sheet) {
         return false;
     }
-    run(&LIMITS, install, row, sheet)
+    run(out, &LIMITS, install, row, sheet)
 }
 
 // The cases of a text one after the other.
-fn run(cases: &[u8], install: &[u8], row: &mut [u8], sheet: &mut [u8]) -> bool {
+fn run<O: Write>(
+    out: &mut O,
+    cases: &[u8],
+    install: &[u8],
+    row: &mut [u8],
+    sheet: &mut [u8],
+) -> bool {
     let mut start = 0;
     while start < cases.len() {
         let end = place_of(MARK, cases, start + 1);
-        if !case(&cases[start + 1..end], install, row, sheet) {
+        if !case(out, &cases[start + 1..end], install, row, sheet) {
             return false;
         }
         start = end;
@@ -190,11 +199,17 @@ fn run(cases: &[u8], install: &[u8], row: &mut [u8], sheet: &mut [u8]) -> bool {
 }
 
 // A case: what it starts from and its own script are written into the row, and then carried out.
-fn case(text: &[u8], install: &[u8], row: &mut [u8], sheet: &mut [u8]) -> bool {
+fn case<O: Write>(
+    out: &mut O,
+    text: &[u8],
+    install: &[u8],
+    row: &mut [u8],
+    sheet: &mut [u8],
+) -> bool {
     let named = line_end(text, 0);
     let fresh = put_fresh(row, install);
     let end = put_text(row, fresh, &text[named..]);
-    judge(&text[..named], row, end, sheet)
+    judge(out, &text[..named], row, end, sheet)
 }
 
 // The blind as it is installed, with its links.
@@ -204,15 +219,21 @@ pub(crate) fn put_fresh(row: &mut [u8], install: &[u8]) -> usize {
 }
 
 // The line of a case, whose script ends here in the row.
-pub(crate) fn judge(name: &[u8], row: &[u8], end: usize, sheet: &mut [u8]) -> bool {
+pub(crate) fn judge<O: Write>(
+    out: &mut O,
+    name: &[u8],
+    row: &[u8],
+    end: usize,
+    sheet: &mut [u8],
+) -> bool {
     let length = least(end, row.len());
     let same = holds(&row[..length], sheet);
-    if !io::write_all(STDOUT_FILENO, name) {
+    if out.write_all(name).is_err() {
         return false;
     }
     if same {
-        io::write_all(STDOUT_FILENO, b"\tsame\n")
+        out.write_all(b"\tsame\n").is_ok()
     } else {
-        io::write_all(STDOUT_FILENO, b"\tdiffers\n")
+        out.write_all(b"\tdiffers\n").is_ok()
     }
 }

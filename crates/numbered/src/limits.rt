@@ -6,6 +6,7 @@ ghost use Rattle.numbered.specs.Limits.{link_line, link_lines};
 
 use crate::{judge, put_fresh};
 use decimals::put_number;
+use std::io::Write;
 use texts::put_text;
 
 pub(crate) const LIMITS: [u8; 790] = *b"@R2
@@ -36,11 +37,16 @@ link 1513 5 4 = 0 0
 link 1514 5 4 = 7 0
 ";
 
-pub(crate) fn full_table(install: &[u8], row: &mut [u8], sheet: &mut [u8]) -> bool {
+pub(crate) fn full_table<O: Write>(
+    out: &mut O,
+    install: &[u8],
+    row: &mut [u8],
+    sheet: &mut [u8],
+) -> bool {
     let fresh = put_fresh(row, install);
     let nearly = put_links(row, fresh);
     let end = put_text(row, nearly, &FULL_TABLE);
-    judge(b"R1", row, end, sheet)
+    judge(out, b"R1", row, end, sheet)
 }
 
 // The script of links 9 to 511; eight are there already.

@@ -3,25 +3,28 @@
 #![tactic(auto)]
 
 use intake::fetch_all;
-use libc::{STDERR_FILENO, STDIN_FILENO, STDOUT_FILENO};
 use rows::least;
+use std::io::{Eprint, Print};
 use verdicts::put_verdict;
 
-fn main() {
-    let mut file = io::large_buffer();
-    let mut out = io::buffer();
-    let heard = fetch_all(STDIN_FILENO, &mut file);
+// More bytes than a file may have.
+const FILE: usize = 65_536;
+
+// The size of the row in which the answer is written.
+const LINE: usize = 4_096;
+
+fn main(rt: HostRuntime) {
+    let mut file = [0u8; FILE];
+    let mut out = [0u8; LINE];
+    let heard = fetch_all(&mut rt.stdin(), &mut file);
     if heard.failed {
-        io::write_all(STDERR_FILENO, b"plant_check: the input could not be read\n");
+        let _ = rt.eprint("plant_check: the input could not be read\n");
         return;
     }
     let have = heard.have;
     let said = put_verdict(&mut out, &file[..have]);
     let end = least(said, out.len());
-    if !io::write_all(STDOUT_FILENO, &out[..end]) {
-        io::write_all(
-            STDERR_FILENO,
-            b"plant_check: the answer could not be written\n",
-        );
+    if rt.write_all(&out[..end]).is_err() {
+        let _ = rt.eprint("plant_check: the answer could not be written\n");
     }
 }

@@ -22,7 +22,6 @@ use table::soundness::is_sound;
 use tags::PLACES;
 
 // Removes a blind and its links; refused by 12, 1, 2, 3, in this order.
-#[tactic(auto, unfolding(crate::specs::Removals::remove_rule))]
 pub fn remove_blind(mut panel: Panel, tag: u64) -> Answered
     ensures { Does (remove_rule tag) panel no_cells result no_cells }
 {

@@ -7,12 +7,16 @@ mod start;
 
 use commands::lines::LONGEST;
 use intake::fetch;
-use libc::{STDERR_FILENO, STDIN_FILENO};
 use output::send;
 use panel::Panel;
 use replies::answer_line;
 use rows::{least, line_end, move_to_front};
 use start::first_panel;
+use std::io::{Eprint, Print, Read};
+use std::rt::Files;
+
+// The size of the row in which lines are read, and of the sheet on which their answers are written.
+const BUFFER: usize = 65_536;
 
 // An unfinished line is kept up to the first byte that makes it too long: what follows cannot mend it.
 const MOST_KEPT: usize = LONGEST + 1;
@@ -33,17 +37,23 @@ struct Bench {
     is_open: bool,
 }
 
-fn main() {
-    let mut input = io::large_buffer();
-    let mut out = io::large_buffer();
-    let begun = first_panel();
+fn main(rt: HostRuntime) {
+    let mut input = [0u8; BUFFER];
+    let mut out = [0u8; BUFFER];
+    let begun = first_panel(&rt);
     if begun.good {
-        serve(begun.panel, &mut input, &mut out);
+        serve(&rt, &mut rt.stdin(), begun.panel, &mut input, &mut out);
     }
 }
 
 // A proved loop has to end, and nothing says that the input does: the turns are more than any run uses up.
-fn serve(panel: Panel, input: &mut [u8], out: &mut [u8]) {
+fn serve<R: Files + Print + Eprint, I: Read>(
+    rt: &R,
+    source: &mut I,
+    panel: Panel,
+    input: &mut [u8],
+    out: &mut [u8],
+) {
     let mut bench = Bench {
         panel,
         lines: 0,
@@ -56,29 +66,35 @@ fn serve(panel: Panel, input: &mut [u8], out: &mut [u8]) {
         if !bench.is_open {
             return;
         }
-        bench = hear(bench, input, out);
+        bench = hear(rt, source, bench, input, out);
         turns -= 1;
     }
 }
 
 // Whoever reads the answers waits for them, so the sheet is sent off before more input is asked for.
-fn hear(bench: Bench, input: &mut [u8], out: &mut [u8]) -> Bench {
-    let heard = fetch(STDIN_FILENO, input, bench.kept);
+fn hear<R: Files + Print + Eprint, I: Read>(
+    rt: &R,
+    source: &mut I,
+    bench: Bench,
+    input: &mut [u8],
+    out: &mut [u8],
+) -> Bench {
+    let heard = fetch(source, input, bench.kept);
     let have = heard.have;
     if heard.failed {
-        io::write_all(STDERR_FILENO, b"replay: the input could not be read\n");
+        let _ = rt.eprint("replay: the input could not be read\n");
         return Bench {
             is_open: false,
             ..bench
         };
     }
     if have == 0 {
-        return finish(bench, input, out);
+        return finish(rt, bench, input, out);
     }
-    let next = answer_lines(bench, &input[..have], out);
+    let next = answer_lines(rt, bench, &input[..have], out);
     let start = next.kept;
     let kept = move_to_front(input, start, left(start, have));
-    let sent = sent_off(next, out);
+    let sent = sent_off(rt, next, out);
     Bench { kept, ..sent }
 }
 
@@ -91,12 +107,17 @@ fn left(start: usize, have: usize) -> usize {
 }
 
 // Every line that has ended; what is kept then begins where the last of them ended.
-fn answer_lines(bench: Bench, input: &[u8], out: &mut [u8]) -> Bench {
+fn answer_lines<R: Files + Print + Eprint>(
+    rt: &R,
+    bench: Bench,
+    input: &[u8],
+    out: &mut [u8],
+) -> Bench {
     let mut next = bench;
     let mut start = 0;
     let mut end = line_end(input, 0);
     while end < input.len() {
-        next = answer(next, &input[start..end], out);
+        next = answer(rt, next, &input[start..end], out);
         start = end + 1;
         end = line_end(input, start);
     }
@@ -108,7 +129,7 @@ fn answer_lines(bench: Bench, input: &[u8], out: &mut [u8]) -> Bench {
 
 // Nothing is carried out any more where an answer did not go through. The answer that fills the sheet goes off after
 // those before it, so that only a long line makes a large write.
-fn answer(bench: Bench, line: &[u8], out: &mut [u8]) -> Bench {
+fn answer<R: Files + Print + Eprint>(rt: &R, bench: Bench, line: &[u8], out: &mut [u8]) -> Bench {
     if !bench.is_open {
         return bench;
     }
@@ -126,7 +147,7 @@ fn answer(bench: Bench, line: &[u8], out: &mut [u8]) -> Bench {
     if at < FULL {
         return next;
     }
-    let is_open = send(out, 0, before) && send(out, before, at);
+    let is_open = send(rt, out, 0, before) && send(rt, out, before, at);
     Bench {
         at: 0,
         is_open,
@@ -139,10 +160,10 @@ fn one_more(lines: u64) -> u64 {
 }
 
 // A last line without a line feed is a line too; where none is kept, the line is empty and passed over.
-fn finish(bench: Bench, input: &[u8], out: &mut [u8]) -> Bench {
+fn finish<R: Files + Print + Eprint>(rt: &R, bench: Bench, input: &[u8], out: &mut [u8]) -> Bench {
     let kept = least(bench.kept, input.len());
-    let last = answer(bench, &input[..kept], out);
-    let sent = sent_off(last, out);
+    let last = answer(rt, bench, &input[..kept], out);
+    let sent = sent_off(rt, last, out);
     Bench {
         is_open: false,
         ..sent
@@ -150,8 +171,8 @@ fn finish(bench: Bench, input: &[u8], out: &mut [u8]) -> Bench {
 }
 
 // What is on the sheet goes off, unless the output takes no more.
-fn sent_off(bench: Bench, out: &[u8]) -> Bench {
-    let is_open = bench.is_open && send(out, 0, bench.at);
+fn sent_off<R: Files + Print + Eprint>(rt: &R, bench: Bench, out: &[u8]) -> Bench {
+    let is_open = bench.is_open && send(rt, out, 0, bench.at);
     Bench {
         at: 0,
         is_open,

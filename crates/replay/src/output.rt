@@ -1,29 +1,38 @@
 // Answers on their way out. Whoever reads them gets whole lines, also where the output takes no more.
-use libc::{SEEK_CUR, SEEK_END, SEEK_SET, STDERR_FILENO, STDOUT_FILENO};
+use intake::fetch_all;
 use rows::least;
+use std::fs::{OpenFile, OpenOptions};
+use std::io::{Eprint, Print};
+use std::rt::Files;
+use std::str::from_utf8;
+use std::{fs, io};
 
-// The size of the sheet on which answers are written.
-const SHEET: usize = 65_536;
+// Standard output as a file, and what the system tells of it: first a line with the place in it, "pos:", a tab, a number.
+const OUTPUT: &str = "/proc/self/fd/1";
+
+const TOLD: &str = "/proc/self/fdinfo/1";
+
+// Bytes in which the line with the place stands whole.
+const PLACE_LINE: usize = 64;
 
 // Writes these answers out, and says whether they went through.
-pub(crate) fn send(out: &[u8], from: usize, to: usize) -> bool {
+pub(crate) fn send<R: Files + Print + Eprint>(rt: &R, out: &[u8], from: usize, to: usize) -> bool {
     let end = least(to, out.len());
     let start = least(from, end);
-    let taken = write_out(&out[start..end]);
+    let taken = write_out(rt, &out[start..end]);
     if taken == end - start {
         return true;
     }
-    take_back(taken);
-    io::write_all(STDERR_FILENO, b"replay: the answers could not be written\n");
+    let _ = take_back(rt, taken as u64);
+    let _ = rt.eprint("replay: the answers could not be written\n");
     false
 }
 
 // How many of these bytes were taken: the first write that fails or takes nothing is the last.
-fn write_out(bytes: &[u8]) -> usize {
+fn write_out<R: Print>(rt: &R, bytes: &[u8]) -> usize {
     let mut taken = 0;
     while taken < bytes.len() {
-        let got = libc::write(STDOUT_FILENO, &bytes[taken..]);
-        let more = io::count(got, &bytes[taken..]);
+        let more = rt.write_some(&bytes[taken..]).unwrap_or(0);
         if more == 0 {
             return taken;
         }
@@ -33,14 +42,30 @@ fn write_out(bytes: &[u8]) -> usize {
 }
 
 // A full disk may have taken half a line: the file is cut off where these answers began. What stands after them is
-// somebody else's, and then nothing is cut off.
-fn take_back(taken: usize) {
-    let part = least(taken, SHEET) as i64;
-    let here = libc::lseek(STDOUT_FILENO, 0, SEEK_CUR);
-    if libc::lseek(STDOUT_FILENO, 0, SEEK_END) == here {
-        let start = libc::lseek(STDOUT_FILENO, -part, SEEK_CUR);
-        libc::ftruncate(STDOUT_FILENO, start);
-    } else {
-        libc::lseek(STDOUT_FILENO, here, SEEK_SET);
+// somebody else's, and then nothing is cut off. What is no file is not opened again: a pipe would wait for a reader.
+fn take_back<R: Files>(rt: &R, taken: u64) -> io::Result<()> {
+    if !fs::metadata(rt, OUTPUT)?.is_file() {
+        return Ok(());
     }
+    let Some(here) = place(rt)? else {
+        return Ok(());
+    };
+    let file = OpenOptions::new().write(true).open(rt, OUTPUT)?;
+    if here < taken || file.metadata()?.len() != here {
+        return Ok(());
+    }
+    file.set_len(here - taken)
+}
+
+// Where in its file standard output stands.
+fn place<R: Files>(rt: &R) -> io::Result<Option<u64>> {
+    let mut bytes = [0u8; PLACE_LINE];
+    let mut told = fs::open(rt, TOLD)?;
+    let heard = fetch_all(&mut told, &mut bytes);
+    Ok(place_in(&bytes[..heard.have]))
+}
+
+fn place_in(told: &[u8]) -> Option<u64> {
+    let line = from_utf8(told).ok()?.lines().next()?;
+    line.strip_prefix("pos:\t")?.parse::<u64>().ok()
 }

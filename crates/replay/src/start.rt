@@ -1,15 +1,22 @@
 // The panel that the commands start with: empty, or that of the plant file that the program was started with.
-use decimals::put_number;
 use fields::ROOM;
 use intake::fetch_all;
-use libc::STDERR_FILENO;
 use panel::Panel;
 use plant_reader::read;
-use rows::least;
-use texts::put_text;
+use std::env::FillError;
+use std::fs;
+use std::io::{Eprint, Read};
+use std::rt::{Env, Files};
+use std::str::from_utf8;
 
-// How many arguments there are with one plant file, the program's own name among them.
-const ONE_FILE: usize = 2;
+// The longest name of a file.
+const NAME: usize = 4_096;
+
+// More bytes than a file may have.
+const FILE: usize = 65_536;
+
+// What is told where there is no file of the name, or where it cannot be read.
+const UNREAD: &str = "replay: the plant file could not be read\n";
 
 // A panel, and whether to begin with it.
 #[derive(Clone, Copy)]
@@ -19,56 +26,65 @@ pub(crate) struct Start {
 }
 
 // Where there is no panel to begin with, the reason was told.
-pub(crate) fn first_panel() -> Start {
-    let count = os::arg_count();
+pub(crate) fn first_panel<R: Env + Files + Eprint>(rt: &R) -> Start {
     let panel = Panel::empty();
-    if count < ONE_FILE {
+    if !is_given(rt, 1) {
         return Start { good: true, panel };
     }
-    if ONE_FILE < count {
-        return refused(b"replay: more than one plant file\n");
+    if is_given(rt, 2) {
+        return refused(rt, "replay: more than one plant file\n");
     }
-    let mut name = io::buffer();
-    let length = os::arg(1, &mut name);
-    let file = os::open_read(&name[..length]);
-    if file < 0 {
-        return refused(b"replay: the plant file could not be read\n");
+    let mut name = [0u8; NAME];
+    match rt.arg(1, &mut name) {
+        Ok(length) => from_named(rt, &name[..length]),
+        Err(_) => refused(rt, UNREAD),
     }
-    let begun = from_file(file);
-    libc::close(file);
-    begun
 }
 
-fn refused(reason: &[u8]) -> Start {
-    io::write_all(STDERR_FILENO, reason);
+// Whether there is an argument of this place; the program's own name has place 0.
+fn is_given<R: Env>(rt: &R, place: usize) -> bool {
+    let mut none = [0u8; 0];
+    !matches!(rt.arg(place, &mut none), Err(FillError::NotPresent))
+}
+
+fn refused<R: Eprint>(rt: &R, reason: &str) -> Start {
+    let _ = rt.eprint(reason);
     let panel = Panel::empty();
     Start { good: false, panel }
 }
 
+// The panel of the file of this name; a name that is no UTF-8 names no file that could be opened.
+fn from_named<R: Files + Eprint>(rt: &R, name: &[u8]) -> Start {
+    let Ok(path) = from_utf8(name) else {
+        return refused(rt, UNREAD);
+    };
+    match fs::open(rt, path) {
+        Ok(mut file) => from_file(rt, &mut file),
+        Err(_) => refused(rt, UNREAD),
+    }
+}
+
 // The panel of an open file. More bytes than a file may have are enough to know that it is too long.
-fn from_file(file: i32) -> Start {
-    let mut bytes = io::large_buffer();
+fn from_file<R: Eprint, F: Read>(rt: &R, file: &mut F) -> Start {
+    let mut bytes = [0u8; FILE];
     let heard = fetch_all(file, &mut bytes);
     if heard.failed {
-        return refused(b"replay: the plant file could not be read\n");
+        return refused(rt, UNREAD);
     }
     let have = heard.have;
     if ROOM < have {
-        return refused(b"replay: the plant file is too long\n");
+        return refused(rt, "replay: the plant file is too long\n");
     }
     let done = read(&bytes[..have]);
     if done.line != 0 {
-        return bad_in(done.line);
+        return bad_in(rt, done.line);
     }
     let panel = done.panel;
     Start { good: true, panel }
 }
 
-fn bad_in(line: u64) -> Start {
-    let mut text = io::buffer();
-    let head = put_text(&mut text, 0, b"replay: the plant file is bad in line ");
-    let number = put_number(&mut text, head, line);
-    let end = put_text(&mut text, number, b"\n");
-    let length = least(end, text.len());
-    refused(&text[..length])
+fn bad_in<R: Eprint>(rt: &R, line: u64) -> Start {
+    let _ = eprint!(rt; "replay: the plant file is bad in line {line}\n");
+    let panel = Panel::empty();
+    Start { good: false, panel }
 }

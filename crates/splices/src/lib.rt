@@ -20,7 +20,6 @@ use tags::{CELLS, Tags};
 use terminals::TERMINALS;
 
 // Splices n terminals in at t; refused by 12, 1, 3, 9, in this order.
-#[tactic(auto, unfolding(crate::specs::Splices::splice_in_rule))]
 pub fn splice_in(mut panel: Panel, t: u64, n: u64) -> Answered
     ensures { Does (splice_in_rule t n) panel no_cells result no_cells }
 {
@@ -36,7 +35,6 @@ pub fn splice_in(mut panel: Panel, t: u64, n: u64) -> Answered
 }
 
 // Splices n terminals out at t; refused by 12, 1, 10, 3, in this order.
-#[tactic(auto, unfolding(crate::specs::Splices::splice_out_rule))]
 pub fn splice_out(mut panel: Panel, t: u64, n: u64) -> Answered
     ensures { Does (splice_out_rule t n) panel no_cells result no_cells }
 {
@@ -52,7 +50,6 @@ pub fn splice_out(mut panel: Panel, t: u64, n: u64) -> Answered
 }
 
 // What refuses a splice, 0 if nothing does. It only reads the panel, and is small enough to become part of the calls.
-#[tactic(auto, unfolding(crate::specs::Places::splice_rule, seats::specs::Seats::in_use, seats::specs::Seats::busy_from, seats::specs::Seats::would_pass))]
 fn judge(panel: Panel, t: u64, n: u64, up: u64, down: u64) -> u8
     requires { down ≤ n }
     ensures { result ≡ refusal ((splice_rule t n up down).checks (model_of panel) no_cells) }
@@ -108,7 +105,6 @@ fn is_off_strip(t: u64, n: u64) -> bool
 }
 
 // The terminals of the present tags move if nothing refuses.
-#[tactic(auto, unfolding(crate::specs::Places::shifted_places))]
 fn shift_all(
     answer: u8,
     present: Tags,

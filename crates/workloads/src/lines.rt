@@ -1,20 +1,20 @@
 // What is written of a workload: one line with its numbers, the last answer and the sum.
 use crate::tally::Tally;
 use crate::workload::Workload;
-use libc::STDOUT_FILENO;
+use std::io::Print;
 
-pub(crate) fn write_line(workload: Workload, tally: Tally) {
-    write_field(b"call ", workload.call);
-    write_field(b" case ", workload.case);
-    write_field(b" blinds ", workload.blinds);
-    write_field(b" links ", workload.links);
-    write_field(b" turns ", workload.turns);
-    write_field(b" answer ", tally.answer as u64);
-    write_field(b" sum ", tally.sum);
-    io::write_all(STDOUT_FILENO, b"\n");
+pub(crate) fn write_line<R: Print>(rt: &R, workload: Workload, tally: Tally) {
+    write_field(rt, b"call ", workload.call);
+    write_field(rt, b" case ", workload.case);
+    write_field(rt, b" blinds ", workload.blinds);
+    write_field(rt, b" links ", workload.links);
+    write_field(rt, b" turns ", workload.turns);
+    write_field(rt, b" answer ", tally.answer as u64);
+    write_field(rt, b" sum ", tally.sum);
+    let _ = rt.write_all(b"\n");
 }
 
-fn write_field(name: &[u8], value: u64) {
-    io::write_all(STDOUT_FILENO, name);
-    io::print_decimal(STDOUT_FILENO, value);
+fn write_field<R: Print>(rt: &R, name: &[u8], value: u64) {
+    let _ = rt.write_all(name);
+    let _ = rt.print(value);
 }

@@ -13,6 +13,9 @@ mod tally;
 mod workload;
 
 use lines::write_line;
+use std::env::FillError;
+use std::io::Print;
+use std::rt::Env;
 use workload::Workload;
 
 // How many calls there are, and how many cases.
@@ -26,34 +29,34 @@ const DIGITS: usize = 20;
 // A number that ten times as much still fits.
 const MOST: u64 = 1_000_000_000_000_000_000;
 
-fn main() {
-    if os::arg_count() < 6 {
-        run_all();
+fn main(rt: HostRuntime) {
+    if !is_given(&rt, 5) {
+        run_all(&rt);
         return;
     }
     let workload = Workload {
-        call: argument(1),
-        case: argument(2),
-        blinds: argument(3),
-        links: argument(4),
-        turns: argument(5),
+        call: argument(&rt, 1),
+        case: argument(&rt, 2),
+        blinds: argument(&rt, 3),
+        links: argument(&rt, 4),
+        turns: argument(&rt, 5),
     };
-    write_line(workload, workload.run());
+    write_line(&rt, workload, workload.run());
 }
 
-fn run_all() {
+fn run_all<R: Print>(rt: &R) {
     for call in 0..CALLS {
-        run_cases(call);
+        run_cases(rt, call);
     }
 }
 
-fn run_cases(call: u64) {
+fn run_cases<R: Print>(rt: &R, call: u64) {
     for case in 0..CASES {
-        run_one(call, case);
+        run_one(rt, call, case);
     }
 }
 
-fn run_one(call: u64, case: u64) {
+fn run_one<R: Print>(rt: &R, call: u64, case: u64) {
     let workload = Workload {
         call,
         case,
@@ -61,12 +64,19 @@ fn run_one(call: u64, case: u64) {
         links: 512,
         turns: 2,
     };
-    write_line(workload, workload.run());
+    write_line(rt, workload, workload.run());
 }
 
-fn argument(i: usize) -> u64 {
+// Whether there is an argument of this place; the program's own name has place 0.
+fn is_given<R: Env>(rt: &R, i: usize) -> bool {
+    let mut none = [0u8; 0];
+    !matches!(rt.arg(i, &mut none), Err(FillError::NotPresent))
+}
+
+// One that is missing or has more digits than are lent is 0.
+fn argument<R: Env>(rt: &R, i: usize) -> u64 {
     let mut text = [0u8; DIGITS];
-    let length = os::arg(i, &mut text);
+    let length = rt.arg(i, &mut text).unwrap_or(0);
     number(&text[..length])
 }
 

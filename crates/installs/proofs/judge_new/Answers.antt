@@ -1,6 +1,6 @@
 -- Each test answers one check of the list, in its order.
 -- Assumes nothing.
-use Rattle.std.proofs.Common.{◌≡◌, ℕ, Bool, not, ◌||◌, sym, ◌∙◌}
+use Rattle.std.proofs.Common.{◌≡◌, ℕ, Bool, not, ◌||◌, sym, ap, ◌∙◌}
 use lib.Dec.{leb}
 use Rattle.answers.proofs.Refusals.{refused_by_lem, passed_by, none_left}
 use Rattle.params.specs.declared.Asked.{Asked}
@@ -16,21 +16,21 @@ told : (tag terminal : ℕ) (asked : Asked) {r : Bool} → r ≡ allowed (row_of
 told tag terminal asked {r} e = sym (beyond_told tag terminal (row_of asked) r e)
 
 pub returns-then-not-sound : goal.returns-then-not-sound
-returns-then-not-sound c = sym (refused_by_lem _ 12 _ c.if-not-sound.true)
+returns-then-not-sound c = sym (refused_by_lem _ 12 _ (ap not c.if-not-sound.true))
 
 pub returns-then-out : goal.returns-then-out
 returns-then-out c =
-    sym (passed_by _ 12 _ c.if-not-sound.false
+    sym (passed_by _ 12 _ (ap not c.if-not-sound.false)
     ∙ refused_by_lem _ 1 _ (told c.args.tag c.args.terminal c.args.asked c.in_range.ensures ∙ c.if-out.true))
 
 pub returns-then-has : goal.returns-then-has
 returns-then-has c =
-    sym (passed_by _ 12 _ c.if-not-sound.false
+    sym (passed_by _ 12 _ (ap not c.if-not-sound.false)
     ∙ passed_by _ 1 _ (told c.args.tag c.args.terminal c.args.asked c.in_range.ensures ∙ c.if-out.false)
     ∙ refused_by_lem _ 4 _ (sym c.has.ensures ∙ c.if-has.true))
 
 pub returns-else-has : goal.returns-else-has
 returns-else-has c =
-    sym (passed_by _ 12 _ c.if-not-sound.false
+    sym (passed_by _ 12 _ (ap not c.if-not-sound.false)
     ∙ passed_by _ 1 _ (told c.args.tag c.args.terminal c.args.asked c.in_range.ensures ∙ c.if-out.false)
     ∙ passed_by _ 4 _ (sym c.has.ensures ∙ c.if-has.false) ∙ none_left)
