@@ -24,7 +24,7 @@ use Rattle.links.proofs.Calls.{own_checks}
 use Rattle.links.proofs.Places.{shifted, moved_kept}
 use Rattle.laws.proofs.Unused.{Unused, unused_all, unused_after, unused_from}
 use Rattle.table.proofs.Sound.{sound_reads}
-use Rattle.table.proofs.Stores.{few, many, holds_list, held_at}
+use Rattle.table.proofs.Stores.{many, holds_list, held_at}
 
 module _ {A : Type 0} (p : A → Bool) (ls : List A) (d : A) (i : ℕ) (here : i < length ls) where
   next_kept : kept p (drop i ls) ≡ cond (p (get_or ls i d)) (get_or ls i d ∷ kept p (drop (i + 1) ls)) (kept p (drop (i + 1) ls))

@@ -15,6 +15,7 @@ use table::{MOST, Table};
 
 // Removes all links of a tag; refused by 12. A tag that no link has removes nothing. Words are stored where all places are
 // unused, so that nothing stays behind the last.
+#[tactic(auto, unfolding(links::specs::Edits::table_drop))]
 pub fn remove_tag(table: Table, tag: u64) -> Edited
     ensures { edited_of result ≡ edited (table_drop tag) (held_of table) }
 {

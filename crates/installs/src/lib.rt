@@ -20,6 +20,7 @@ use tags::{CELLS, PLACES, Tags};
 use terminals::TERMINALS;
 
 // Installs a fresh blind; refused by 12, 1, 4, 10, in this order.
+
 pub fn install(mut panel: Panel, tag: u64, terminal: u64, asked: Asked) -> Answered
     ensures { Does (install_rule tag terminal (row_of asked)) panel no_cells result no_cells }
 {

@@ -3,7 +3,6 @@
 // sound is refused by 12.
 #![tactic(auto)]
 
-
 mod search;
 
 ghost use Rattle.std.specs.Prelude.{◌≤◌, ◌<◌, suc, ◌≡◌, true, not, [], ◌∷◌, ◌++◌, take, drop};
@@ -30,6 +29,7 @@ pub struct Edited {
 }
 
 // The number that refuses a new link, in the paper's order, or DONE.
+#[tactic(auto, unfolding(crate::specs::Edits::add_checks))]
 fn judge_new(table: Table, link: Link, place: usize) -> u8
     requires table_value { is_sound (held_of table) ≡ true }
     requires place_value { place ≡ rank key_of (key_of link) (held_of table).links }
@@ -42,6 +42,7 @@ fn judge_new(table: Table, link: Link, place: usize) -> u8
 }
 
 // The number of the first that is so.
+#[tactic(auto, unfolding(answers::specs::Answers::first))]
 fn first_met(fits: bool, there: bool, other: bool, full: bool) -> u8
     ensures { result ≡ refusal ((not fits, 1) ∷ (there, 4) ∷ (other, 8) ∷ (full, 7) ∷ []) }
 {
@@ -98,6 +99,7 @@ fn without_at(table: Table, place: usize) -> Table
 }
 
 // Adds a link; refused by 12, 1, 4, 8, 7, in this order.
+#[tactic(auto, unfolding(crate::specs::Edits::table_add))]
 pub fn add(table: Table, link: Link) -> Edited
     ensures { edited_of result ≡ edited (table_add link) (held_of table) }
 {
@@ -128,6 +130,7 @@ pub fn add(table: Table, link: Link) -> Edited
 }
 
 // Removes a link; refused by 12, 5, in this order.
+#[tactic(auto, unfolding(crate::specs::Edits::table_remove))]
 pub fn remove(table: Table, link: Link) -> Edited
     ensures { edited_of result ≡ edited (table_remove link) (held_of table) }
 {

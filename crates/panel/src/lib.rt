@@ -2,7 +2,6 @@
 // A tag that is not present carries nothing, whatever stands at its place.
 #![tactic(auto)]
 
-
 pub mod calls;
 pub mod soundness;
 
@@ -24,6 +23,7 @@ pub struct Panel {
 
 impl Panel {
     // The panel without blinds and links.
+    #[tactic(auto, unfolding(tags::specs::Tags::none))]
     pub fn empty() -> Panel
         ensures { model_of result ≡ bare }
     {

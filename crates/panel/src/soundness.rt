@@ -32,6 +32,7 @@ pub fn is_sound(seats: bool, present: Tags, words: &[u32], count: usize) -> bool
 }
 
 // Whether the seats are sound, whatever the links. A place whose tag is absent is passed over unread.
+
 pub fn seats_sound(present: Tags, terminals: [u8; CELLS], blinds: [Blind; CELLS]) -> bool
     ensures { (table : Table) → result ≡ sound_seats (model_of (panel_of present terminals blinds table)) }
 {
@@ -51,6 +52,7 @@ pub fn seats_sound(present: Tags, terminals: [u8; CELLS], blinds: [Blind; CELLS]
 
 // Each link names a present blind. The words are joined: no tag is past the last one exactly if theirs is not. The tags
 // without a blind are shifted by each tag: no lowest digit is 1 exactly if each tag has a blind.
+
 pub fn all_named(present: Tags, words: &[u32], count: usize) -> bool
     ensures { result ≡ all_named (tags_of present) (links_in count words.now) }
 {
@@ -77,6 +79,7 @@ fn from_tag(tags: u64, word: u32) -> u64
 }
 
 // Whether a blind may stand at a terminal beside those that are taken.
+#[tactic(auto, unfolding(crate::specs::Sound::sound_seat))]
 fn may_stand(taken: Strip, terminal: u8, blind: Blind) -> bool
     ensures { result ≡ (not (taken_of taken terminal) && sound_seat (record { terminal = terminal; blind = blind })) }
 {

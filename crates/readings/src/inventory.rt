@@ -18,6 +18,7 @@ pub struct Counted {
 }
 
 // Refused by 12, with both numbers 0.
+#[tactic(auto, unfolding(crate::specs::Inventory::inventory_rule))]
 pub fn inventory(panel: Panel) -> Counted
     ensures { counted_of result (model_of panel) ≡ carried inventory_rule (model_of panel) no_cells }
 {

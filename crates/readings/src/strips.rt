@@ -16,6 +16,7 @@ use terminals::STRIP;
 const OFF: u8 = 0;
 
 // Each blind gives its motor command to the cell of its terminal.
+#[tactic(auto, unfolding(crate::specs::Strip::strip_rule))]
 pub fn strip(panel: Panel, cells: &mut [u8]) -> Answered
     ensures { Does strip_rule panel (row cells.old) result (row cells.new) }
 {

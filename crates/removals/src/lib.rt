@@ -59,6 +59,7 @@ pub fn remove_blind(mut panel: Panel, tag: u64) -> Answered
 }
 
 // The table's own edit, which judges the table; where the blind refuses there is no edit, and the table is only judged.
+#[tactic(auto, unfolding(answers::specs::Answers::first))]
 fn drop_links(own: u8, table: Table, tag: u64) -> Edited
     ensures { (result.answer ≡ first own (unsound (held_of table) ∷ [])) × (own ≡ 0 → edited_of result ≡ edited (table_drop tag) (held_of table)) }
 {

@@ -61,6 +61,7 @@ pub fn passes_end(present: Tags, tag: usize, terminal: u8, from: u64, n: u64) ->
 
 // What refuses a blind that is named, from what stands at its place: an argument is outside its range, the blind is not
 // there, or it is busy.
+#[tactic(auto, unfolding(answers::specs::Answers::first))]
 pub fn judge_named(out: bool, present: Tags, tag: u64, blind: Blind) -> u8
     ensures { result ≡ refusal (outside out ∷ (not (tags_of present tag), 2) ∷ (busy blind, 3) ∷ []) }
 {

@@ -77,6 +77,7 @@ fn judge(panel: Panel, t: u64, n: u64, up: u64, down: u64) -> u8
 }
 
 // The number of what was met at a tag: a terminal in use, a busy blind, or a terminal that would pass the strip.
+#[tactic(auto, unfolding(answers::specs::Answers::first))]
 fn first_met(used: bool, busy: bool, past: bool) -> u8
     ensures { result ≡ refusal ((used, 10) ∷ (busy, 3) ∷ (past, 9) ∷ []) }
 {
@@ -90,6 +91,7 @@ fn first_met(used: bool, busy: bool, past: bool) -> u8
 }
 
 // Compared without a sum, which could wrap.
+#[tactic(auto, unfolding(crate::specs::Splices::off_strip))]
 fn is_off_strip(t: u64, n: u64) -> bool
     ensures { result ≡ off_strip t n }
 {
@@ -126,6 +128,7 @@ fn shift_all(
 }
 
 // What stands at an absent tag's place stays.
+#[tactic(auto, unfolding(crate::specs::Places::moved))]
 fn shift(present: Tags, tag: usize, terminal: u8, t: u64, up: u64, down: u64) -> u8
     requires down_bound { t + down ≤ strip.terminals }
     requires up_bound { tags_of present tag ≡ true → t + down ≤ terminal → terminal + up < strip.terminals }

@@ -18,6 +18,7 @@ use tags::CELLS;
 const LONGEST: u64 = 60000;
 
 // Every blind by itself: no blind's time hangs on another's, so each is stepped and reported in one turn.
+#[tactic(auto, unfolding(crate::specs::TimeSteps::step_rule))]
 pub fn time_step(mut panel: Panel, dt: u64, cells: &mut [u16]) -> Answered
     ensures { Does (step_rule dt) panel (row cells.old) result (row cells.new) }
 {

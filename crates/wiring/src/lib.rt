@@ -18,6 +18,7 @@ use panel::calls::Answered;
 use panel::soundness::{all_named, seats_sound};
 
 // Adds a link; refused by 12, 1, 2, 4, 8, 7, in this order.
+
 pub fn add_link(mut panel: Panel, address: u64, tag: u64, kind: u64) -> Answered
     ensures { Does (add_rule (link_of address tag kind)) panel no_cells result no_cells }
 {
@@ -60,6 +61,7 @@ pub fn add_link(mut panel: Panel, address: u64, tag: u64, kind: u64) -> Answered
 }
 
 // Removes a link; refused by 12, 1, 5, in this order.
+
 pub fn remove_link(mut panel: Panel, address: u64, tag: u64, kind: u64) -> Answered
     ensures { Does (remove_link_rule (link_of address tag kind)) panel no_cells result no_cells }
 {
@@ -100,6 +102,7 @@ pub fn remove_link(mut panel: Panel, address: u64, tag: u64, kind: u64) -> Answe
 }
 
 // What refuses a new link on a sound panel: its range, its blind, and then what the table answered.
+#[tactic(auto, unfolding(answers::specs::Answers::first))]
 fn judge_new(fits: bool, there: bool, table: u8) -> u8
     ensures { result ≡ first table ((not fits, 1) ∷ (not there, 2) ∷ []) }
 {
@@ -110,6 +113,7 @@ fn judge_new(fits: bool, there: bool, table: u8) -> u8
 }
 
 // What refuses a link that is to go: its range, and then what the table answered.
+#[tactic(auto, unfolding(answers::specs::Answers::first))]
 fn judge_old(fits: bool, table: u8) -> u8
     ensures { result ≡ first table ((not fits, 1) ∷ []) }
 {

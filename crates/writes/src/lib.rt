@@ -16,6 +16,7 @@ use seats::judge_named;
 use tags::PLACES;
 
 // Writes the parameters of a blind; refused by 12, 1, 2, 3, in this order.
+
 pub fn write_params(mut panel: Panel, tag: u64, asked: Asked) -> Answered
     ensures { Does (write_rule tag (row_of asked)) panel no_cells result no_cells }
 {

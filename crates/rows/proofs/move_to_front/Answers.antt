@@ -1,6 +1,6 @@
 -- Each turn moves one byte.
 -- Assumes nothing.
-use Rattle.std.proofs.Common.{◌≡◌, ◌+◌, ◌<◌, List, ℕ, length, get_or, set, ap, ◌∙◌, arith}
+use Rattle.std.proofs.Common.{◌+◌, ◌<◌, List, ℕ, length, get_or, set, ap, ◌∙◌, arith}
 use Rattle.rows.proofs.MovedRow.{read_there, one_moved}
 use Rattle.rows.proofs.move_to_front.Goals as goal
 

@@ -1,4 +1,3 @@
--- link/proofs/Link/made/Answers.antt
 -- Numbers in range fit a link's fields.
 use Rattle.std.proofs.Common.{arith, sym, ◌∙◌}
 use Rattle.link.specs.Link.{link_of}

@@ -1,4 +1,3 @@
--- table/proofs/search/below/Answers.antt
 -- Each look leaves a search that ends where the whole one does, until nothing is left to look at.
 use Rattle.std.proofs.Common.{min, arith}
 use Rattle.table.specs.declared.Table.{Table}

@@ -1,4 +1,3 @@
--- table/proofs/search/below/Invariants.antt
 -- Each look leaves a search that ends where the whole one does, until nothing is left to look at.
 use Rattle.std.proofs.Common.{◌-◌, min}
 use Rattle.table.specs.Links.{links_in}

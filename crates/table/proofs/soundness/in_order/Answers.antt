@@ -1,4 +1,3 @@
--- table/proofs/soundness/in_order/Answers.antt
 -- What was found so far and the links that are left are in order exactly if all are; at the end none is left.
 use Rattle.std.proofs.Common.{◌≡◌, ◌+◌, ◌&&◌, sym, ap, ◌∙◌, arith, length, get_or, drop, eqb, bit_or}
 use Rattle.link.specs.declared.Link.{Link}

@@ -1,4 +1,3 @@
--- table/proofs/soundness/in_order/Invariants.antt
 -- What was found so far and the links that are left are in order exactly if all are; at the end none is left.
 use Rattle.std.proofs.Common.{◌≡◌, ◌-◌, ◌≤◌, true, ◌&&◌, drop, eqb}
 use Rattle.kinds.specs.Kinds.{class_of}

@@ -1,4 +1,3 @@
--- table/proofs/soundness/is_sound/Answers.antt
 -- Both tests are made where the links are few enough.
 use Rattle.std.proofs.Common.{sym}
 use Rattle.table.specs.Links.{held_in}

@@ -1,4 +1,3 @@
--- table/proofs/soundness/is_tidy/Answers.antt
 -- What is joined so far and the words that are left are all 0 exactly if each word from the count on is.
 use Rattle.std.proofs.Common.{eqb, get_or, bit_or}
 use Rattle.laws.proofs.Ors.{or_none}

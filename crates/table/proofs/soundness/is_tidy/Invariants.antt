@@ -1,4 +1,3 @@
--- table/proofs/soundness/is_tidy/Invariants.antt
 -- What is joined so far and the words that are left are all 0 exactly if each word from the count on is.
 use Rattle.std.proofs.Common.{◌≡◌, ◌-◌, ◌&&◌, length, drop, eqb}
 use Rattle.laws.specs.Every.{every}

@@ -1,4 +1,3 @@
--- proofs/Tags/count/Answers.antt
 -- The ones of a word of 64 digits are counted by halving, as its members are.
 use Rattle.std.proofs.Common.{arith}
 use Rattle.tags.proofs.Members.{ones_count}

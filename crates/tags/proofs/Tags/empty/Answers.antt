@@ -1,4 +1,3 @@
--- proofs/Tags/empty/Answers.antt
 -- The word 0 has no member.
 use Rattle.tags.proofs.Members.{member_none}
 use Rattle.tags.proofs.Tags.empty.Goals as goal

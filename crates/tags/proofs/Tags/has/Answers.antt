@@ -1,4 +1,3 @@
--- proofs/Tags/has/Answers.antt
 -- A tag below 64 is asked by its digit; any other number is no member of a word of 64 digits.
 use Rattle.std.proofs.Common.{arith, sym}
 use Rattle.tags.proofs.Members.{member_past}

@@ -1,4 +1,3 @@
--- proofs/Tags/lowest_free/Answers.antt
 -- The trailing zeros of the complement are counted by halving, as the tags up to the lowest free one are.
 use Rattle.std.proofs.Common.{arith}
 use Rattle.tags.proofs.Members.{zeros_lowest}

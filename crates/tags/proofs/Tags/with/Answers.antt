@@ -1,4 +1,3 @@
--- proofs/Tags/with/Answers.antt
 -- The digit of a tag below 64 is set; any other number changes nothing.
 use Rattle.std.proofs.Common.{arith, ℕ, sym, ap, ◌∙◌, bit_or}
 use Rattle.tags.specs.Tags.{member}

@@ -1,4 +1,3 @@
--- proofs/Tags/without/Answers.antt
 -- The digit of a tag below 64 is cleared; any other number is no member, and changes nothing.
 use Rattle.std.proofs.Common.{arith, ℕ, ◌-◌, ◌^◌, sym, ap, ◌∙◌, bit_and}
 use Rattle.tags.specs.Tags.{member}

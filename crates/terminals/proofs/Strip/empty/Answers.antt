@@ -1,4 +1,3 @@
--- terminals/proofs/Strip/empty/Answers.antt
 -- Both words are empty.
 use Rattle.terminals.proofs.Strips.{strip_empty}
 use Rattle.terminals.proofs.Strip.empty.Goals as goal

@@ -1,4 +1,3 @@
--- terminals/proofs/Strip/has/Answers.antt
 -- A terminal is asked in the word that it belongs to.
 use Rattle.std.proofs.Common.{sym, ◌∙◌}
 use Rattle.terminals.proofs.Strips.{taken_low, taken_high}

@@ -1,4 +1,3 @@
--- terminals/proofs/Strip/with/Answers.antt
 -- A terminal is put into the word that it belongs to.
 use Rattle.std.proofs.Common.{refl}
 use Rattle.terminals.proofs.Strips.{strip_low, strip_high}

@@ -1,0 +1,10 @@
+-- The places up to this tag are written, each from what stood there.
+-- Assumes nothing.
+use Rattle.std.proofs.Common.{◌≡◌}
+use Rattle.laws.specs.Fills.{filled}
+use Rattle.tags.specs.Tags.{tags_of}
+use Rattle.splices.specs.Places.{moved, place_shifted}
+use Rattle.splices.proofs.shift_all.Given as goal
+
+abbrev pub invariant-loop-tag : goal.invariant-loop-tag
+invariant-loop-tag l = l.next ≡ filled (place_shifted (tags_of l.present) (moved l.t l.up l.down) l.terminals) l.tag l.terminals
