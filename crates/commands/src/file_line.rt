@@ -16,6 +16,7 @@ pub struct Part {
 }
 
 // What the words after `read` mean.
+#[tactic(auto, using(crate::proofs::FileLine::no_file, crate::proofs::FileLine::two_files, crate::proofs::FileLine::one_file))]
 pub(crate) fn read_file(line: &[u8], after: usize) -> Meaning
     ensures { result ≡ file_meant (words (drop after line.now)) }
 {
@@ -35,6 +36,7 @@ pub(crate) fn read_file(line: &[u8], after: usize) -> Meaning
 }
 
 // Where the second word of a line stands.
+#[tactic(auto, using(crate::proofs::FileLine::part_of_front), unfolding(crate::specs::Lines::file_in))]
 pub fn file_in(line: &[u8]) -> Part
     ensures line_value { take (result.to - result.from) (drop result.from line.now) ≡ file_in line.now }
     ensures from_le_to { result.from ≤ result.to }
@@ -44,6 +46,7 @@ pub fn file_in(line: &[u8]) -> Part
     second_word(&line[..end])
 }
 
+#[tactic(auto, using(crate::proofs::FileLine::second_within, crate::proofs::FileLine::second_there))]
 fn second_word(line: &[u8]) -> Part
     ensures line_value { take (result.to - result.from) (drop result.from line.now) ≡ second_of (words line.now) }
     ensures from_le_to { result.from ≤ result.to }

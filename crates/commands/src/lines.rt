@@ -20,6 +20,7 @@ const RETURN: u8 = 13;
 const COMMENT: u8 = b'#';
 
 // What a line means, without its line feed.
+#[tactic(auto, unfolding(crate::specs::Lines::line_means))]
 pub fn read_line(line: &[u8]) -> Meaning
     ensures { result ≡ line_means line.now }
 {
@@ -31,6 +32,7 @@ pub fn read_line(line: &[u8]) -> Meaning
 }
 
 // Where a line ends: a carriage return at its end does not belong to it.
+#[tactic(auto, using(crate::proofs::LineEnd::nothing_ends, crate::proofs::LineEnd::return_ends, crate::proofs::LineEnd::other_ends))]
 pub(crate) fn end_of(line: &[u8]) -> usize
     ensures line_value { take result line.now ≡ without_return line.now }
     ensures upper_bound { result ≤ length line.now }
@@ -45,6 +47,7 @@ pub(crate) fn end_of(line: &[u8]) -> usize
     length
 }
 
+#[tactic(auto, using(crate::proofs::Meanings::nothing_meant, crate::proofs::Meanings::comment_meant, crate::proofs::Meanings::file_meant_lem, crate::proofs::Meanings::command_meant), unfolding(texts::specs::Text::text, laws::specs::Fills::tabulate))]
 fn read_words(line: &[u8]) -> Meaning
     ensures { result ≡ meaning_of (words line.now) }
 {
@@ -64,6 +67,7 @@ fn read_words(line: &[u8]) -> Meaning
     judge(entry, arguments)
 }
 
+#[tactic(auto, unfolding(crate::specs::Lines::judged))]
 fn judge(entry: Entry, arguments: Arguments) -> Meaning
     ensures { result ≡ judged entry arguments.count arguments.numeric (value_at arguments) }
 {
@@ -81,6 +85,7 @@ fn judge(entry: Entry, arguments: Arguments) -> Meaning
 }
 
 // The call that a name and its arguments make.
+#[tactic(auto, unfolding(crate::specs::Lines::called))]
 fn call(name: Name, given: Arguments) -> Command
     ensures { result ≡ called name given.count (value_at given) }
 {
@@ -109,6 +114,7 @@ fn call(name: Name, given: Arguments) -> Command
 }
 
 // How many bytes are lent for a file; where nothing is said, as many as it can need.
+#[tactic(auto, unfolding(crate::specs::Lines::lent_bytes))]
 fn lent_bytes(given: Arguments) -> u64
     ensures { result ≡ lent_bytes given.count (value_at given) }
 {
@@ -119,6 +125,7 @@ fn lent_bytes(given: Arguments) -> u64
 }
 
 // The set of parameters after the first arguments; where there is none, the default set.
+#[tactic(auto, unfolding(crate::specs::Lines::set_after))]
 fn set_after(given: Arguments, first: usize) -> Asked
     requires { first ≤ 2 }
     ensures { result ≡ set_after first given.count (value_at given) }

@@ -18,6 +18,7 @@ pub fn put_error(out: &mut [u8], at: usize, number: u64, fault: Fault) -> usize
     put_fault(out, middle, fault)
 }
 
+#[tactic(auto, unfolding(crate::specs::FaultText::fault_text, texts::specs::Text::text, laws::specs::Fills::tabulate))]
 fn put_fault(out: &mut [u8], at: usize, fault: Fault) -> usize
     ensures { sheet out.new result ≡ puts (fault_text fault) (sheet out.old at) }
 {

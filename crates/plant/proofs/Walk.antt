@@ -114,12 +114,14 @@ walk_ends number p (bytes ∷ next ∷ rest) some-there =
 -- and where a line is the first bad one, the walk answers its number
 bad_here : (number : ℕ) (p : Plan) (ps : List (List ℕ)) → Bad p ps → walked number p ps ≡ bad_in number
 unfolding walked
+bad_here number p [] never = elim never [ ]
 bad_here number p (bytes ∷ next ∷ rest) (refused e) = ap (λ (o : Option Plan). if_there o (bad_in number) (λ q. walked (suc number) q (next ∷ rest))) e
 bad_here number p ((byte ∷ bytes) ∷ []) no_line_feed = refl
 bad_here number p ([] ∷ []) (no_first_line e) = ap (λ (b : Bool). cond b (good_file p.model) (bad_in number)) e
 
 -- a bad line is there
 bad_there : {p : Plan} (ps : List (List ℕ)) → Bad p ps → ps ≡ [] → ⊥
+bad_there [] never f = elim never [ ]
 bad_there (bytes ∷ next ∷ rest) (refused e) f = cons-ne-nil bytes (next ∷ rest) f
 bad_there ((byte ∷ bytes) ∷ []) no_line_feed f = cons-ne-nil (byte ∷ bytes) [] f
 bad_there ([] ∷ []) (no_first_line e) f = cons-ne-nil [] [] f

@@ -2,6 +2,5 @@
 // says what a file is, and proofs/ what holds of every file and every panel.
 #![tactic(auto)]
 
-
 // The version that is written.
 pub const NEWEST: u64 = 1;

@@ -24,6 +24,7 @@ pub struct Written {
 }
 
 // Refused by 13, then by 12, with length 0. The rest of the buffer stays as it was.
+#[tactic(auto, using(crate::proofs::Filled::short_refused))]
 pub fn write(panel: Panel, out: &mut [u8]) -> Written
     ensures { written_of result (model_of panel) (row out.new) ≡ carried file_rule (model_of panel) (row out.old) }
 {

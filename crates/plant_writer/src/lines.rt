@@ -19,6 +19,7 @@ use tags::{CELLS, Tags};
 use texts::put_text;
 
 // The whole file from the front of the sheet on.
+#[tactic(auto, using(crate::proofs::LinesText::file_put))]
 pub(crate) fn put_lines(out: &mut [u8], panel: Panel) -> usize
     ensures { sheet out.new result ≡ puts (plant_text (model_of panel)) (sheet out.old 0) }
 {
@@ -27,6 +28,7 @@ pub(crate) fn put_lines(out: &mut [u8], panel: Panel) -> usize
     put_links(out, next, panel.table)
 }
 
+#[tactic(auto, unfolding(texts::specs::Text::text, laws::specs::Fills::tabulate, plant::specs::Written::first_line))]
 fn put_first(out: &mut [u8]) -> usize
     ensures { sheet out.new result ≡ puts (line_text first_line) (sheet out.old 0) }
 {
@@ -34,6 +36,7 @@ fn put_first(out: &mut [u8]) -> usize
     put_line(out, 0, b"plant", &numbers)
 }
 
+#[tactic(auto, using(texts::proofs::Sheet::each_none))]
 fn put_blinds(out: &mut [u8], at: usize, panel: Panel) -> usize
     ensures { sheet out.new result ≡ puts (lines_text (blind_lines places (model_of panel))) (sheet out.old at) }
 {
@@ -48,6 +51,7 @@ fn put_blinds(out: &mut [u8], at: usize, panel: Panel) -> usize
 }
 
 // A tag that is not present has no line.
+#[tactic(auto, using(texts::proofs::Sheet::put_first, texts::proofs::Sheet::put_second, texts::proofs::Sheet::put_nothing))]
 fn put_seat(
     out: &mut [u8],
     at: usize,
@@ -77,6 +81,7 @@ fn put_blind(out: &mut [u8], at: usize, tag: usize, terminal: u8, blind: Blind) 
 }
 
 // A table that counts more links than it has places has the lines of those that it has.
+#[tactic(auto, using(texts::proofs::Sheet::each_none))]
 fn put_links(out: &mut [u8], at: usize, table: Table) -> usize
     ensures { sheet out.new result ≡ puts (lines_text (map link_line (held_of table).links)) (sheet out.old at) }
 {
@@ -91,6 +96,7 @@ fn put_links(out: &mut [u8], at: usize, table: Table) -> usize
     next
 }
 
+#[tactic(auto, unfolding(texts::specs::Text::text, laws::specs::Fills::tabulate, plant::specs::Written::link_line))]
 fn put_link(out: &mut [u8], at: usize, link: Link) -> usize
     ensures { sheet out.new result ≡ puts (line_text (link_line link)) (sheet out.old at) }
 {
