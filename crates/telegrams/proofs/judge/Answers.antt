@@ -27,6 +27,17 @@ decided : (s : Bool) (address value : ℕ) (links : List Link) {n : ℕ} → s �
     → refusal (link_checks address value links) ≡ n → n ≡ refusal ((not s, 12) ∷ outside (is_outside address value) ∷ link_checks address value links)
 decided s address value links on within e = past s (outside (is_outside address value) ∷ link_checks address value links) on (links_decide address value links within e)
 
+pub returns : goal.returns
+returns c =
+    let t = table c.args.held c.args.words.now in
+    let sound : is_sound (held_of t) ≡ true = c.requires.words_value c.if-not-sound.false in
+    let span : Together c.args.address (held_of t).links c.below-start.result (c.below-end.result - c.below-start.result) =
+    together t c.args.address sound c.requires.words_len c.below-start.ensures c.below-end.ensures in (
+      decided c.args.sound c.args.address c.args.value (held_of t).links c.if-not-sound.false (sym c.is_outside.ensures ∙ c.if-is_outside.false)
+          (of_class t c.args.address sound c.requires.words_len span.from span.counted c.if-count-eq0.false c.args.value c.class.ensures c.if-class-value.false),
+      λ e. span,
+    )
+
 pub returns-then-not-sound : goal.returns-then-not-sound
 returns-then-not-sound c =
     (c.refused.ensures ∙ sym (refused_by_lem (not c.args.sound) 12 _ (ap not c.if-not-sound.true)), λ e. absurd (omega (arith, c.refused.ensures)))
@@ -90,15 +101,4 @@ returns-then-class-value c =
           ∙ decided c.args.sound c.args.address c.args.value (held_of t).links c.if-not-sound.false (sym c.is_outside.ensures ∙ c.if-is_outside.false)
           (not_of_class t c.args.address sound c.requires.words_len span.from span.counted c.if-count-eq0.false c.args.value c.class.ensures c.if-class-value.true),
       λ e. absurd (omega (arith, c.refused-then-class-value.ensures)),
-    )
-
-pub returns : goal.returns
-returns c =
-    let t = table c.args.held c.args.words.now in
-    let sound : is_sound (held_of t) ≡ true = c.requires.words_value c.if-not-sound.false in
-    let span : Together c.args.address (held_of t).links c.below-start.result (c.below-end.result - c.below-start.result) =
-    together t c.args.address sound c.requires.words_len c.below-start.ensures c.below-end.ensures in (
-      decided c.args.sound c.args.address c.args.value (held_of t).links c.if-not-sound.false (sym c.is_outside.ensures ∙ c.if-is_outside.false)
-          (of_class t c.args.address sound c.requires.words_len span.from span.counted c.if-count-eq0.false c.args.value c.class.ensures c.if-class-value.false),
-      λ e. span,
     )

@@ -127,6 +127,14 @@ bounds-panel-tag-in-loop-turn c =
     known c.args.address c.args.value c.args.panel (search rules) (search rules) (parts_decide c.args.panel c.seats_sound-seated.ensures c.is_sound-sound.ensures) c.judge-reach.ensures.0 c.judge-reach.ensures.1 c.if-refused-ne-DONE.false in
     low k c.loop-turn.invariant c.place.result c.link_at-link.result c.loop-turn-test.true c.place.ensures c.link_at-link.ensures
 
+pub loop-turn-preserved : goal.loop-turn-preserved
+loop-turn-preserved c =
+    let k : Known c.args.address c.args.value c.args.panel c.judge-reach.result.start c.judge-reach.result.count =
+    known c.args.address c.args.value c.args.panel (search rules) (search rules) (parts_decide c.args.panel c.seats_sound-seated.ensures c.is_sound-sound.ensures) c.judge-reach.ensures.0 c.judge-reach.ensures.1 c.if-refused-ne-DONE.false in
+    let link = c.link_at-link.result in
+    deliver_turn c.args.value c.args.panel _ _ k.sound k.room k.fits c.place.result (omega (arith, c.place.ensures, c.loop-turn-test.true)) link (read k c.loop-turn.invariant c.place.result link c.link_at-link.ensures)
+    c.loop-turn.turn c.loop-turn-test.true c.place.ensures c.loop-turn.invariant k.telegram.byte c.hear-new.result c.hear-new.ensures c.report.ensures
+
 pub overflow_cast-cells : goal.overflow_cast-cells
 overflow_cast-cells c =
     let k : Known c.args.address c.args.value c.args.panel c.judge-reach.result.start c.judge-reach.result.count =
@@ -143,14 +151,6 @@ bounds-cells-tag c =
     let k : Known c.args.address c.args.value c.args.panel c.judge-reach.result.start c.judge-reach.result.count =
     known c.args.address c.args.value c.args.panel (search rules) (search rules) (parts_decide c.args.panel c.seats_sound-seated.ensures c.is_sound-sound.ensures) c.judge-reach.ensures.0 c.judge-reach.ensures.1 c.if-refused-ne-DONE.false in
     omega (arith, low k c.loop-turn.invariant c.place.result c.link_at-link.result c.loop-turn-test.true c.place.ensures c.link_at-link.ensures, deliver_lent _ _ _ _ c.loop-turn.invariant)
-
-pub loop-turn-preserved : goal.loop-turn-preserved
-loop-turn-preserved c =
-    let k : Known c.args.address c.args.value c.args.panel c.judge-reach.result.start c.judge-reach.result.count =
-    known c.args.address c.args.value c.args.panel (search rules) (search rules) (parts_decide c.args.panel c.seats_sound-seated.ensures c.is_sound-sound.ensures) c.judge-reach.ensures.0 c.judge-reach.ensures.1 c.if-refused-ne-DONE.false in
-    let link = c.link_at-link.result in
-    deliver_turn c.args.value c.args.panel _ _ k.sound k.room k.fits c.place.result (omega (arith, c.place.ensures, c.loop-turn-test.true)) link (read k c.loop-turn.invariant c.place.result link c.link_at-link.ensures)
-    c.loop-turn.turn c.loop-turn-test.true c.place.ensures c.loop-turn.invariant k.telegram.byte c.hear-new.result c.hear-new.ensures c.report.ensures
 
 pub returns : goal.returns
 unfolding telegram_rule
