@@ -15,7 +15,6 @@ use Rattle.blind.specs.Fields.{with_flags}
 use Rattle.blind.specs.Orders.{started, motor_off, fresh_of}
 use Rattle.blind.specs.Millisecond.{moved, arrived, ran, waited, millisecond_at, millisecond}
 use Rattle.milliseconds.specs.Milliseconds.{milliseconds}
-use Rattle.inputs.specs.declared.Command.{Command}
 use Rattle.inputs.specs.Inputs.{full_run, mud, acted}
 use Rattle.duties.specs.declared.Duty.{Duty}
 use Rattle.duties.specs.Rulers.{duty_of, same_duty, is_free}

@@ -11,7 +11,6 @@ use Rattle.heights.specs.Heights.{bottom}
 use Rattle.blind.specs.declared.Blind.{Blind}
 use Rattle.sound_blind.specs.Sound.{Sound}
 use Rattle.kinds.specs.Kinds.{wa, ra, fa, fo, mud, stop, ssud}
-use Rattle.inputs.specs.declared.Command.{Command}
 use Rattle.duties.specs.declared.Duty.{Duty}
 use Rattle.duties.specs.Rulers.{duty_of, same_duty, is_free}
 use Rattle.values.specs.declared.Input.{Input}

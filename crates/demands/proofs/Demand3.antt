@@ -22,12 +22,30 @@ own_stepped : (tag : ℕ) (a b : Model) (blind : Blind) (call : Call) (cells : C
     → Stepped tag (does call a cells) (does call b cells)
 own_stepped tag a b blind (telegram address value) cells told k = tell_stepped tag address value cells a b blind k
 own_stepped tag a b blind (time_step dt) cells passed k = pass_stepped tag dt cells a b blind k
+own_stepped tag a b blind strip cells never k = elim never [ ]
+own_stepped tag a b blind (install _ terminal _) cells never k = elim never [ ]
+own_stepped tag a b blind (remove_blind _) cells never k = elim never [ ]
+own_stepped tag a b blind (write_params _ _) cells never k = elim never [ ]
+own_stepped tag a b blind (add_link _) cells never k = elim never [ ]
+own_stepped tag a b blind (remove_link _) cells never k = elim never [ ]
+own_stepped tag a b blind (splice_in t n) cells never k = elim never [ ]
+own_stepped tag a b blind (splice_out t n) cells never k = elim never [ ]
+own_stepped tag a b blind inventory cells never k = elim never [ ]
 
 -- its report is the same in both
 own_reports : (tag : ℕ) (a b : Model) (call : Call) (cells : Cells) → OfTheRun call → report_of tag (does call a cells) ≡ report_of tag (does call b cells)
     → report_in tag call (does call b cells) ≡ report_in tag call (does call a cells)
 own_reports tag a b (telegram address value) cells told e = ap (λ (n : ℕ). n ∷ []) (sym e)
 own_reports tag a b (time_step dt) cells passed e = ap (λ (n : ℕ). n ∷ []) (sym e)
+own_reports tag a b strip cells never e = elim never [ ]
+own_reports tag a b (install _ terminal _) cells never e = elim never [ ]
+own_reports tag a b (remove_blind _) cells never e = elim never [ ]
+own_reports tag a b (write_params _ _) cells never e = elim never [ ]
+own_reports tag a b (add_link _) cells never e = elim never [ ]
+own_reports tag a b (remove_link _) cells never e = elim never [ ]
+own_reports tag a b (splice_in t n) cells never e = elim never [ ]
+own_reports tag a b (splice_out t n) cells never e = elim never [ ]
+own_reports tag a b inventory cells never e = elim never [ ]
 
 -- what is inserted reports nothing
 silent : (tag : ℕ) (call : Call) (m : Model) (cells : Cells) → Spares tag call → report_in tag call (does call m cells) ≡ []

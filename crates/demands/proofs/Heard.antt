@@ -101,6 +101,7 @@ given_now {value} {link} {links} {b} none (by_this h) =
 given_now none (by_another s) = absurd (none s)
 
 pub shifts_given : (value : ℕ) (links : List Link) (b : Blind) → Shifts value links b → Given value links b
+shifts_given value [] b s = elim s [ ]
 shifts_given value (link ∷ links) b s =
     go (shifts_decides value links (heeded (input_of link.kind value) b))
     (shifts_given value links (heeded (input_of link.kind value) b))

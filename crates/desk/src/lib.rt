@@ -47,6 +47,7 @@ pub struct After {
 }
 
 // Carries out a command and writes its answer, without a line feed.
+#[tactic(auto, unfolding(crate::specs::Desk::carried_out, texts::specs::Text::text, laws::specs::Fills::tabulate))]
 pub fn carry_out(panel: Panel, command: Command, out: &mut [u8], at: usize) -> After
     ensures { desk_of result out.new ≡ carried_out command (model_of panel) (sheet out.old at) }
 {
@@ -97,6 +98,7 @@ fn tell(done: Answered, out: &mut [u8], at: usize) -> After
     After { panel, at: next }
 }
 
+#[tactic(auto, unfolding(crate::specs::Desk::carried_out))]
 fn take_inventory(panel: Panel, out: &mut [u8], at: usize) -> After
     ensures { desk_of result out.new ≡ carried_out Command.Inv (model_of panel) (sheet out.old at) }
 {
@@ -107,6 +109,7 @@ fn take_inventory(panel: Panel, out: &mut [u8], at: usize) -> After
     After { panel, at: next }
 }
 
+#[tactic(auto, unfolding(crate::specs::Desk::carried_out))]
 fn send(panel: Panel, address: u64, value: u64, out: &mut [u8], at: usize) -> After
     ensures { desk_of result out.new ≡ carried_out (Command.Tel address value) (model_of panel) (sheet out.old at) }
 {
@@ -115,6 +118,7 @@ fn send(panel: Panel, address: u64, value: u64, out: &mut [u8], at: usize) -> Af
     tell_cells(done, NO_REPORT, &cells, out, at)
 }
 
+#[tactic(auto, unfolding(crate::specs::Desk::carried_out))]
 fn pass(panel: Panel, dt: u64, out: &mut [u8], at: usize) -> After
     ensures { desk_of result out.new ≡ carried_out (Command.Time dt) (model_of panel) (sheet out.old at) }
 {
@@ -123,6 +127,7 @@ fn pass(panel: Panel, dt: u64, out: &mut [u8], at: usize) -> After
     tell_cells(done, NO_REPORT, &cells, out, at)
 }
 
+#[tactic(auto, unfolding(crate::specs::Desk::carried_out))]
 fn read_strip(panel: Panel, out: &mut [u8], at: usize) -> After
     ensures { desk_of result out.new ≡ carried_out Command.Strip (model_of panel) (sheet out.old at) }
 {
@@ -133,6 +138,7 @@ fn read_strip(panel: Panel, out: &mut [u8], at: usize) -> After
 }
 
 // What a display shows for a byte; a number without an entry is out of range.
+#[tactic(auto, unfolding(crate::specs::Desk::carried_out, crate::specs::Desk::percent_text))]
 fn tell_percent(panel: Panel, raw: u64, out: &mut [u8], at: usize) -> After
     ensures { desk_of result out.new ≡ carried_out (Command.Percent raw) (model_of panel) (sheet out.old at) }
 {
@@ -145,6 +151,7 @@ fn tell_percent(panel: Panel, raw: u64, out: &mut [u8], at: usize) -> After
 }
 
 // What a telegram would do; none is sent.
+#[tactic(auto, unfolding(crate::specs::Desk::carried_out))]
 fn tell_why(panel: Panel, tag: u64, address: u64, value: u64, out: &mut [u8], at: usize) -> After
     ensures { desk_of result out.new ≡ carried_out (Command.Why tag address value) (model_of panel) (sheet out.old at) }
 {
@@ -154,6 +161,7 @@ fn tell_why(panel: Panel, tag: u64, address: u64, value: u64, out: &mut [u8], at
 }
 
 // The plant file, in as many bytes of the buffer as are to be lent.
+#[tactic(auto, unfolding(crate::specs::Desk::carried_out))]
 fn tell_file(panel: Panel, asked: u64, out: &mut [u8], at: usize) -> After
     ensures { desk_of result out.new ≡ carried_out (Command.Write asked) (model_of panel) (sheet out.old at) }
 {

@@ -2,4 +2,3 @@
 // tests of whole lists.
 // Nothing runs here.
 #![tactic(auto)]
-

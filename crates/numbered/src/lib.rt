@@ -180,6 +180,7 @@ fn run_all<O: Write>(out: &mut O, install: &[u8], row: &mut [u8], sheet: &mut [u
 }
 
 // The cases of a text one after the other.
+#[tactic(auto, using(rows::proofs::NextLine::place_within))]
 fn run<O: Write>(
     out: &mut O,
     cases: &[u8],

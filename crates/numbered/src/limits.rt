@@ -50,6 +50,7 @@ pub(crate) fn full_table<O: Write>(
 }
 
 // The script of links 9 to 511; eight are there already.
+#[tactic(auto, using(texts::proofs::Sheet::each_none, texts::proofs::Sheet::each_turn, texts::proofs::Sheet::each_all))]
 fn put_links(row: &mut [u8], from: usize) -> usize
     ensures { sheet row.new result ≡ puts link_lines (sheet row.old from) }
 {

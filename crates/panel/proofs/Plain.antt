@@ -12,7 +12,7 @@ use Rattle.table.proofs.Plain.{same_held, held_same, packed_words, packed_same, 
 use Rattle.link.specs.Link.{nothing, Fits}
 use Rattle.panel.specs.declared.Panel.{Panel}
 use Rattle.panel.specs.declared.calls.Answered.{Answered}
-use Rattle.panel.specs.Panel.{Seat, Model, seats_of, model_of}
+use Rattle.panel.specs.Panel.{Model, seats_of, model_of}
 use Rattle.panel.specs.Sound.{is_sound}
 use Rattle.panel.specs.Calls.{Cells, CallRule, Does}
 use Rattle.panel.specs.Plain.{PlainPanel, plain_seats, plain_model, Words, Links, SamePanel, in_words}

@@ -19,6 +19,7 @@ use table::{MOST, Table};
 use tags::{CELLS, Tags};
 use texts::put_text;
 
+#[tactic(auto, unfolding(texts::specs::Text::text, laws::specs::Fills::tabulate, crate::specs::PanelText::panel_text))]
 pub fn put_panel(out: &mut [u8], at: usize, panel: Panel) -> usize
     ensures { sheet out.new result ≡ puts (panel_text (model_of panel)) (sheet out.old at) }
 {
@@ -27,6 +28,7 @@ pub fn put_panel(out: &mut [u8], at: usize, panel: Panel) -> usize
     put_links(out, next, panel.table)
 }
 
+#[tactic(auto, unfolding(panel::specs::Panel::seats_of))]
 fn put_blinds(out: &mut [u8], at: usize, panel: Panel) -> usize
     ensures { sheet out.new result ≡ puts (each (λ tag. seat_text tag (seats_of panel tag)) places) (sheet out.old at) }
 {
@@ -59,6 +61,7 @@ fn put_seat(
 }
 
 // A table that counts more links than it has places shows those that it has.
+#[tactic(auto, unfolding(crate::specs::PanelText::links_text))]
 fn put_links(out: &mut [u8], at: usize, table: Table) -> usize
     ensures { sheet out.new result ≡ puts (links_text (held_of table).links) (sheet out.old at) }
 {
@@ -73,6 +76,7 @@ fn put_links(out: &mut [u8], at: usize, table: Table) -> usize
     next
 }
 
+#[tactic(auto, unfolding(texts::specs::Text::text, laws::specs::Fills::tabulate, crate::specs::PanelText::link_text))]
 fn put_link(out: &mut [u8], at: usize, link: Link) -> usize
     ensures { sheet out.new result ≡ puts (link_text link) (sheet out.old at) }
 {

@@ -11,7 +11,7 @@ unfoldable pub reason_text : Reason → List ℕ
 reason_text Reason.NotSound = decimal (number_of Reason.NotSound)
 reason_text Reason.OutOfRange = decimal (number_of Reason.OutOfRange)
 reason_text Reason.NoBlind = decimal (number_of Reason.NoBlind)
-reason_text Reason.NotLinked = text "0 not_linked"
+reason_text Reason.NotLinked = text "0 not-linked"
 reason_text Reason.WrongClass = text "0 wrong-class"
 reason_text Reason.UnderWind = text "0 under-wind"
 reason_text Reason.UnderRain = text "0 under-rain"

@@ -9,6 +9,7 @@ use decimals::put_number;
 use reasons::Reason;
 use texts::put_text;
 
+#[tactic(auto, unfolding(crate::specs::ReasonText::reason_text, texts::specs::Text::text, laws::specs::Fills::tabulate))]
 pub fn put_reason(out: &mut [u8], at: usize, reason: Reason) -> usize
     ensures { sheet out.new result ≡ puts (reason_text reason) (sheet out.old at) }
 {
@@ -29,6 +30,7 @@ pub fn put_reason(out: &mut [u8], at: usize, reason: Reason) -> usize
     }
 }
 
+#[tactic(auto, unfolding(texts::specs::Text::text, laws::specs::Fills::tabulate, crate::specs::ReasonText::reason_text))]
 fn put_waiting(out: &mut [u8], at: usize, rest: u32) -> usize
     ensures { sheet out.new result ≡ puts (reason_text (Reason.Waiting rest)) (sheet out.old at) }
 {

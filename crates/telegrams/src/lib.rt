@@ -32,6 +32,7 @@ use values::Input;
 const LAST_VALUE: u64 = 255;
 
 // The links speak to the panel itself; a copy of its blinds tells each cell what stood there before the whole call.
+#[tactic(auto, unfolding(crate::specs::Telegrams::telegram_rule, panel::specs::Calls::checks))]
 pub fn telegram(mut panel: Panel, address: u64, value: u64, cells: &mut [u16]) -> Answered
     ensures { Does (telegram_rule address value) panel (row cells.old) result (row cells.new) }
 {
@@ -144,6 +145,7 @@ fn judge(sound: bool, words: &[u32], held: usize, address: u64, value: u64) -> R
 }
 
 // Whether a telegram cannot have this address or this value.
+#[tactic(auto, unfolding(crate::specs::Telegrams::is_outside))]
 pub fn is_outside(address: u64, value: u64) -> bool
     ensures { result ≡ is_outside address value }
 {

@@ -19,6 +19,7 @@ use reasons::{Judged, Reason};
 use table::search::below;
 use tags::PLACES;
 
+#[tactic(auto, unfolding(crate::specs::Why::judged_in))]
 pub fn why(panel: Panel, tag: u64, address: u64, value: u64) -> Reason
     ensures { result ≡ explained tag address value (model_of panel) }
 {
@@ -49,6 +50,7 @@ pub fn why(panel: Panel, tag: u64, address: u64, value: u64) -> Reason
     judged.reason(byte)
 }
 
+#[tactic(auto, unfolding(crate::specs::Why::is_outside))]
 fn is_outside(tag: u64, address: u64, value: u64) -> bool
     ensures { result ≡ is_outside tag address value }
 {

@@ -37,14 +37,14 @@ returns-then-dt-gt-LONGEST c =
 pub loop-tag-init : goal.loop-tag-init
 loop-tag-init c = step_start _ _ _
 
+pub loop-tag-preserved : goal.loop-tag-preserved
+loop-tag-preserved c =
+    step_turn _ _ c.loop-tag.invariant c.has-there.ensures c.later-new.ensures c.cell.ensures (search (long, rules)) c.if-cells-ne-CELLS.false c.loop-tag-test.true
+
 pub overflow_cast-cells : goal.overflow_cast-cells
 overflow_cast-cells c =
     let whole : is_sound (model_of c.args.panel) ≡ true = sym (parts_decide c.args.panel c.seats_sound-seated.ensures c.is_sound.ensures) ∙ c.if-not-is_sound.false in
     omega (arith, step_fits c.args.dt c.args.panel c.loop-tag.invariant c.has-there.ensures c.later-new.ensures (sound_panel c.args.panel (search rules) whole) c.cell.ensures)
-
-pub loop-tag-preserved : goal.loop-tag-preserved
-loop-tag-preserved c =
-    step_turn _ _ c.loop-tag.invariant c.has-there.ensures c.later-new.ensures c.cell.ensures (search (long, rules)) c.if-cells-ne-CELLS.false c.loop-tag-test.true
 
 pub returns : goal.returns
 unfolding step_rule

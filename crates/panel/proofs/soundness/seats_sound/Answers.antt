@@ -1,7 +1,6 @@
 -- A present tag's seat takes its terminal; an absent tag is passed over.
 -- Assumes nothing.
 use Rattle.std.proofs.Common.{◌≡◌, ℕ, ◌<◌, Bool, List, sym, ap, ◌∙◌, arith}
-use borrow.Author.Tests.{not-true, not-false}
 use Rattle.tags.specs.declared.Tags.{Tags}
 use Rattle.blind.specs.declared.Blind.{Blind}
 use Rattle.table.specs.declared.Table.{Table}
