@@ -30,7 +30,6 @@ pub(crate) fn lent_of(asked: u64) -> usize
 }
 
 // Where the call was refused, a dash stands for the file.
-#[tactic(auto, unfolding(crate::specs::Desk::file_text, texts::specs::Text::text, laws::specs::Fills::tabulate))]
 pub(crate) fn put_file(out: &mut [u8], at: usize, done: Written, lent: &[u8]) -> usize
     ensures { sheet out.new result ≡ puts (file_text done.answer done.length lent.now) (sheet out.old at) }
 {

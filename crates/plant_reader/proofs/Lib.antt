@@ -5,3 +5,4 @@ pub mod Said
 pub mod Begun
 pub mod Walked
 pub mod FirstLine
+pub mod Reading

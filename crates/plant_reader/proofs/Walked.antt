@@ -20,7 +20,7 @@ use Rattle.plant.specs.Read.{Plan, is_begun, if_there, bytes_taken, FileRead, go
 use Rattle.plant.proofs.Walk.{walk_on}
 
 -- the bytes from one place up to another
-abbrev part : ℕ → ℕ → List ℕ → List ℕ
+abbrev pub part : ℕ → ℕ → List ℕ → List ℕ
 part at end file = take (end - at) (drop at file)
 
 some_bytes : (xs : List ℕ) → 0 < length xs → is_empty xs ≡ false

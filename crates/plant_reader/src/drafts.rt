@@ -71,6 +71,7 @@ impl Draft {
     }
 
     // By its word.
+    #[tactic(auto, unfolding(plant::specs::Read::further, texts::specs::Text::text, laws::specs::Fills::tabulate))]
     fn further(self, word: &[u8], numbers: Arguments) -> Taken
         ensures { taken_of result ≡ ofRead·further (plan_of self) (ofLines·line word.now (numbers_in numbers)) }
     {
@@ -84,6 +85,7 @@ impl Draft {
     }
 
     // Blinds stand by tag, and before all links.
+    #[tactic(auto, using(crate::proofs::Taken::blind_none, crate::proofs::Taken::blind_count, crate::proofs::Taken::blind_below, crate::proofs::Taken::blind_late, crate::proofs::Taken::blind_refused, crate::proofs::Taken::tag_low, crate::proofs::Taken::blind_good, crate::proofs::Said::one_size))]
     fn with_blind(self, numbers: Arguments) -> Taken
         ensures { taken_of result ≡ with_blind (plan_of self) (numbers_in numbers) }
     {
@@ -116,6 +118,7 @@ impl Draft {
     }
 
     // A link that stands after all others moves none.
+    #[tactic(auto, using(crate::proofs::Taken::link_count, crate::proofs::Taken::link_refused, crate::proofs::Taken::link_moves, crate::proofs::Taken::link_good))]
     fn with_link(self, numbers: Arguments) -> Taken
         ensures { taken_of result ≡ with_link (plan_of self) (numbers_in numbers) }
     {
@@ -137,6 +140,7 @@ impl Draft {
 }
 
 // How many numbers a blind line has in a version; 0 where there is no such version.
+#[tactic(auto, unfolding(plant::specs::Read::blind_size))]
 pub(crate) fn blind_size(version: u64) -> usize
     ensures { result ≡ blind_size version }
 {

@@ -9,6 +9,7 @@ use rows::place_of;
 use words::is_same;
 
 // The version that it names, given without its line feed; 0 where the line is bad.
+#[tactic(auto, using(fields::proofs::Parts::first_mark, crate::proofs::FirstLine::no_form, crate::proofs::FirstLine::other_word, crate::proofs::FirstLine::other_count, crate::proofs::FirstLine::no_version, crate::proofs::FirstLine::version_good), unfolding(texts::specs::Text::text, laws::specs::Fills::tabulate))]
 pub(crate) fn version_of(line: &[u8]) -> u64
     ensures { begun_if result ≡ bytes_taken start line.now }
 {

@@ -21,6 +21,7 @@ pub struct FileRead {
     pub panel: Panel,
 }
 
+#[tactic(auto, using(crate::proofs::Reading::first_unfed, crate::proofs::Reading::first_bad, crate::proofs::Reading::first_good, crate::proofs::Reading::file_end, crate::proofs::Reading::line_refused))]
 pub fn read(file: &[u8]) -> FileRead
     ensures { read_of result ≡ file_read file.now }
 {
