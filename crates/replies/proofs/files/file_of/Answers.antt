@@ -1,6 +1,6 @@
 -- The file of the line stands at the front of the buffer.
 -- Assumes nothing.
-use Rattle.std.proofs.Common.{ℕ, ◌≡◌, ◌-◌, ◌≤◌, List, length, take, drop, sym, ap, ◌∙◌, arith}
+use Rattle.std.proofs.Common.{◌-◌, ◌≤◌, length, take, drop, sym, ap, ◌∙◌, arith}
 use Rattle.file_word.specs.FileWord.{unpacked}
 use Rattle.plant.specs.Read.{file_read}
 use Rattle.replies.proofs.FilesInLines.{part_fits, end_of_text, text_there}
