@@ -19,6 +19,7 @@ use panel::Panel;
 use texts::put_text;
 
 // Carries out a line, given without its line feed, and writes its answer. The number is the line's own.
+#[tactic(auto, unfolding(crate::specs::Replies::line_done, crate::specs::Replies::replied))]
 pub fn answer_line(panel: Panel, number: u64, line: &[u8], out: &mut [u8], at: usize) -> After
     ensures { desk_of result out.new ≡ line_done number line.now (model_of panel) (sheet out.old at) }
 {

@@ -25,6 +25,7 @@ struct Trial {
 }
 
 // Whether every answer of a script, carried out on an empty panel, is the expected one. The sheet takes up the answers.
+#[tactic(auto, unfolding(crate::specs::Scripts::script_holds))]
 pub fn holds(script: &[u8], sheet: &mut [u8]) -> bool
     ensures { result ≡ script_holds script.now sheet.old }
 {

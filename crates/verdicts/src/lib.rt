@@ -12,6 +12,7 @@ use plant_reader::read;
 use texts::put_text;
 
 // Puts the line at the front of a sheet.
+#[tactic(auto, using(crate::proofs::Said::long_said, crate::proofs::Said::bad_said), unfolding(texts::specs::Text::text, laws::specs::Fills::tabulate, fields::specs::Lines::line_text, fields::specs::Lines::line_bytes, fields::specs::Parts::between, texts::specs::Sheet::joined))]
 pub fn put_verdict(out: &mut [u8], file: &[u8]) -> usize
     ensures { sheet out.new result ≡ puts (line_text (verdict file.now)) (sheet out.old 0) }
 {

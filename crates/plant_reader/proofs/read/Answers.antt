@@ -1,4 +1,4 @@
--- A good line with its line feed is read.
+-- A line without its line feed is bad, and a good line with it is read.
 -- Assumes nothing.
 use Rattle.std.proofs.Common.{◌≡◌, ◌<◌, ◌≤◌, ◌∙◌, false, not, length, arith}
 use Rattle.plant_reader.specs.Reader.{plan_of}
