@@ -1,6 +1,6 @@
 -- The file of the line stands at the front of the buffer.
 -- Assumes nothing.
-use Rattle.std.proofs.Common.{◌≡◌, ℕ, ◌-◌, ◌≤◌, List, length, take, drop, sym, ap, ◌∙◌, arith}
+use Rattle.std.proofs.Common.{◌-◌, ◌≤◌, length, take, drop, sym, ap, ◌∙◌, arith}
 use Rattle.file_word.specs.FileWord.{unpacked}
 use Rattle.plant.specs.Read.{file_read}
 use Rattle.replies.proofs.FilesInLines.{part_fits, end_of_text, text_there}
@@ -8,15 +8,14 @@ use Rattle.replies.proofs.files.file_of.Goals as goal
 
 pub slice_bounds-buffer-end : goal.slice_bounds-buffer-end
 slice_bounds-buffer-end c =
-    let word : List ℕ = take (c.file_in-word.result.to - c.file_in-word.result.from) (drop c.file_in-word.result.from c.args.line.now) in
+    let word = take (c.file_in-word.result.to - c.file_in-word.result.from) (drop c.file_in-word.result.from c.args.line.now) in
     let short = part_fits c.args.line.now c.file_in-word.result.from c.file_in-word.result.to c.requires in
     let room : length (unpacked word) ≤ length c.large_buffer-buffer.result = omega (arith, short, c.large_buffer-buffer.ensures) in
-    let length_of : c.unpack-length.result ≡ length (unpacked word) = end_of_text (unpacked word) c.large_buffer-buffer.result room c.unpack-length.ensures in
-    omega (arith, length_of, room, c.unpack-length.auto.out)
+    omega (arith, end_of_text (unpacked word) c.large_buffer-buffer.result room c.unpack-length.ensures, room, c.unpack-length.auto.out)
 
 pub slice_bounds-read-end : goal.slice_bounds-read-end
 slice_bounds-read-end c =
-    let word : List ℕ = take (c.file_in-word.result.to - c.file_in-word.result.from) (drop c.file_in-word.result.from c.args.line.now) in
+    let word = take (c.file_in-word.result.to - c.file_in-word.result.from) (drop c.file_in-word.result.from c.args.line.now) in
     let short = part_fits c.args.line.now c.file_in-word.result.from c.file_in-word.result.to c.requires in
     let room : length (unpacked word) ≤ length c.large_buffer-buffer.result = omega (arith, short, c.large_buffer-buffer.ensures) in
     end_of_text (unpacked word) c.large_buffer-buffer.result room c.unpack-length.ensures
@@ -24,7 +23,7 @@ slice_bounds-read-end c =
 
 pub returns : goal.returns
 returns c =
-    let word : List ℕ = take (c.file_in-word.result.to - c.file_in-word.result.from) (drop c.file_in-word.result.from c.args.line.now) in
+    let word = take (c.file_in-word.result.to - c.file_in-word.result.from) (drop c.file_in-word.result.from c.args.line.now) in
     let short = part_fits c.args.line.now c.file_in-word.result.from c.file_in-word.result.to c.requires in
     let room : length (unpacked word) ≤ length c.large_buffer-buffer.result = omega (arith, short, c.large_buffer-buffer.ensures) in
     c.read.ensures
