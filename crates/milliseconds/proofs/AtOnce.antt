@@ -1,6 +1,6 @@
 -- k milliseconds at once, for a blind at rest, waiting and running.
 -- Assumes nothing.
-use Prim.Native.Nat.{ℕ, zero, suc, ◌-◌, ◌≤◌, ◌<◌}
+use Prim.Native.Nat.{ℕ, zero, suc, ◌-◌, ◌≤◌, ◌<◌, min}
 use native.Mathlib.Nat.{sub-zero}
 use native.Mathlib.Omega.{arith}
 use mathlib.Core.Path.{◌≡◌, refl, sym, ap, ◌∙◌}
@@ -8,7 +8,9 @@ use mathlib.Core.Bool.{true, false}
 use lib.Dec.{eqb}
 use borrow.Author.Tests.{eq-eqb, ne_eqb}
 use Rattle.heights.specs.declared.Direction.{Direction}
+use Rattle.heights.specs.declared.Place.{Place}
 use Rattle.heights.specs.Heights.{place_after}
+use Rattle.runs.specs.declared.Goal.{Goal}
 use Rattle.runs.specs.declared.Run.{Run}
 use Rattle.runs.specs.Millisecond.{shorter}
 use Rattle.blind.specs.declared.Motion.{Motion}
@@ -86,3 +88,31 @@ run_over run b h = over run.length refl
     over (suc n) e =
         let last : eqb (run.length - n - 1) 0 ≡ true = eq-eqb (run.length - n - 1) 0 (omega arith) in
         ap millisecond (running n run b (omega arith)) ∙ rw last
+
+-- what is worked on at once, and the rest of the time, are the whole time
+pub whole : (dt k : ℕ) (run : Run) (b : Blind) (place : Place) → b.motion ≡ Motion.Runs run → k ≡ min dt (run.length - 1)
+    → place ≡ place_after k run.direction b.params b.place
+    → milliseconds (dt - k) (with_motion (Motion.Runs (shorter k run)) (with_place place b)) ≡ milliseconds dt b
+whole dt k run b place runs most there =
+    ap (λ (x : Place). milliseconds (dt - k) (with_motion (Motion.Runs (shorter k run)) (with_place x b))) there
+    ∙ running_on dt k run b (omega arith) (omega arith)
+    ∙ ap (λ (m : Motion). milliseconds dt (with_motion m b)) (sym runs)
+
+-- the run that a motion holds, and where it holds none one of no length
+abbrev pub run_in : Motion → Run
+run_in (Motion.Off rest) = record { direction = Direction.Up; goal = Goal.Full; length = 0 }
+run_in (Motion.Waits rest run) = run
+run_in (Motion.Runs run) = run
+
+-- the milliseconds that may be worked on at once
+abbrev pub smooth : ℕ → Motion → ℕ
+smooth dt m = min dt ((run_in m).length - 1)
+
+-- nothing is left of the time
+pub whole_at_once : (dt : ℕ) (b : Blind) → b.motion ≡ Motion.Runs (run_in b.motion) → dt - smooth dt b.motion ≡ 0
+    → milliseconds dt b
+    ≡ with_motion (Motion.Runs (shorter (smooth dt b.motion) (run_in b.motion))) (moved_by (smooth dt b.motion) (run_in b.motion).direction b)
+unfolding milliseconds
+whole_at_once dt b runs none =
+    sym (whole dt (smooth dt b.motion) (run_in b.motion) b _ runs refl refl)
+    ∙ ap (λ (n : ℕ). milliseconds n (with_motion (Motion.Runs (shorter (smooth dt b.motion) (run_in b.motion))) (moved_by (smooth dt b.motion) (run_in b.motion).direction b))) none

@@ -30,6 +30,7 @@ fn one_by_one(mut blind: Blind, dt: u64) -> Blind
 
 // Until its last millisecond a run changes the place and its length alone, so only these are worked on.
 
+#[tactic(auto, using(crate::proofs::AtOnce::whole_at_once), unfolding(runs::specs::Millisecond::shorter))]
 fn run_on(blind: Blind, run: Run, dt: u64) -> Blind
     requires { blind.motion ≡ Motion.Runs run }
     ensures { result ≡ milliseconds dt blind }
