@@ -104,11 +104,11 @@ module _ (m : Model) (tagged : Tagged m) where
         links = h.0;
         named = h.1.0;
         distinct = h.1.1.0;
-        in_range_lem = λ tag seat at. (h.1.1.1 tag seat at).0;
+        in_range = λ tag seat at. (h.1.1.1 tag seat at).0;
         blinds = λ tag seat at. (h.1.1.1 tag seat at).1;
         tags = tagged;
       })
-      (λ s. (s.links, (s.named, (s.distinct, λ tag seat at. (s.in_range_lem tag seat at, s.blinds tag seat at)))))
+      (λ s. (s.links, (s.named, (s.distinct, λ tag seat at. (s.in_range tag seat at, s.blinds tag seat at)))))
       (and (links_decide m.table) (and named_decides (and distinct_decides seats_good)))
 
 -- a sound model passes the test

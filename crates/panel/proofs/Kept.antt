@@ -51,7 +51,7 @@ each_sound rule m s apart low good =
           let x = each_from rule m j a at_j in
           let y = each_from rule m k b at-k in
           apart j k x.0 y.0 x.1 y.1 (ap (λ (z : Seat). z.terminal) (sym x.2) ∙ same ∙ ap (λ (z : Seat). z.terminal) y.2);
-      in_range_lem = λ tag seat at.
+      in_range = λ tag seat at.
           let x = each_from rule m tag seat at in
           rw x.2 (low tag x.0 x.1);
       blinds = λ tag seat at.
@@ -70,7 +70,7 @@ pub blinds_sound : (rule : ℕ → Seat → Seat) (m : Model) → Sound m
 blinds_sound rule m s stays good =
     each_sound rule m s
     (λ j k a b at_j at-k same. s.distinct j k a b at_j at-k (sym (stays j a) ∙ same ∙ stays k b))
-    (λ tag seat at. rw (stays tag seat) (s.in_range_lem tag seat at)) good
+    (λ tag seat at. rw (stays tag seat) (s.in_range tag seat at)) good
 
 -- ---- one tag with another seat
 
@@ -117,10 +117,10 @@ module _ (t : ℕ) (m : Model) where
             reseated_from (some seat) k b at-k (j ≡ k)
             (λ k-t new-b. absurd (alone j a j-other old-a (same ∙ terminal_is new-b)))
             (λ k-other old-b. s.distinct j k a b old-a old-b same));
-        in_range_lem = λ tag other at.
+        in_range = λ tag other at.
             reseated_from (some seat) tag other at (other.terminal ≤ 127)
             (λ same new. subst (λ (x : Seat). x.terminal ≤ 127) (some-injective seat other new) low)
-            (λ no-t old. s.in_range_lem tag other old);
+            (λ no-t old. s.in_range tag other old);
         blinds = λ tag other at.
             reseated_from (some seat) tag other at (ofBlind.Sound other.blind)
             (λ same new. subst (λ (x : Seat). ofBlind.Sound x.blind) (some-injective seat other new) good)
@@ -143,7 +143,7 @@ module _ (t : ℕ) (m : Model) where
         links = s.links;
         named = λ i h. gone_present _ (unnamed i h) ∙ s.named i h;
         distinct = λ j k a b at_j at-k same. s.distinct j k a b (stood j a at_j) (stood k b at-k) same;
-        in_range_lem = λ tag seat at. s.in_range_lem tag seat (stood tag seat at);
+        in_range = λ tag seat at. s.in_range tag seat (stood tag seat at);
         blinds = λ tag seat at. s.blinds tag seat (stood tag seat at);
         tags = λ tag seat at. s.tags tag seat (stood tag seat at);
       }
@@ -163,7 +163,7 @@ links_sound h m s sound named =
       links = sound;
       named = named;
       distinct = s.distinct;
-      in_range_lem = s.in_range_lem;
+      in_range = s.in_range;
       blinds = s.blinds;
       tags = s.tags;
     }
@@ -175,7 +175,7 @@ bare_sound =
       links = no_links;
       named = λ i h. absurd (omega arith);
       distinct = λ s t a b at-s at-t same. absurd (none-ne-some a at-s);
-      in_range_lem = λ tag seat at. absurd (none-ne-some seat at);
+      in_range = λ tag seat at. absurd (none-ne-some seat at);
       blinds = λ tag seat at. absurd (none-ne-some seat at);
       tags = λ tag seat at. absurd (none-ne-some seat at);
     }
@@ -184,7 +184,7 @@ bare_sound =
     no_links =
         record {
           at_most = omega arith;
-          in_range_lem = λ i h. absurd (omega arith);
+          in_range = λ i h. absurd (omega arith);
           ascending = λ i j k h. absurd (omega arith);
           one_class = λ i j k h. absurd (omega arith);
           tidy = refl;

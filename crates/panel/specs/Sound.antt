@@ -23,7 +23,7 @@ pub record Sound (m : Model) : Type 0 where
   -- "terminals distinct"
   pub distinct : (s t : ℕ) (a b : Seat) → m.seats s ≡ some a → m.seats t ≡ some b → a.terminal ≡ b.terminal → s ≡ t
   -- "and in range;"
-  pub in_range_lem : (tag : ℕ) (seat : Seat) → m.seats tag ≡ some seat → seat.terminal ≤ 127
+  pub in_range : (tag : ℕ) (seat : Seat) → m.seats tag ≡ some seat → seat.terminal ≤ 127
   -- and what is said of each blind, from "parameters in range" on.
   pub blinds : (tag : ℕ) (seat : Seat) → m.seats tag ≡ some seat → ofBlind.Sound seat.blind
   -- "A panel holds up to 64 blinds (tags 0 to 63)."

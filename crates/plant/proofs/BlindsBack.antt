@@ -76,7 +76,7 @@ module _ (m : Model) (f : Fine m) (fresh : AllFresh m) where
         links = bare_sound.links;
         named = λ i h. absurd (omega arith);
         distinct = λ s t a b at-s at-t same. f.sound.distinct s t a b (up_from k s a at-s) (up_from k t b at-t) same;
-        in_range_lem = λ tag seat at. f.sound.in_range_lem tag seat (up_from k tag seat at);
+        in_range = λ tag seat at. f.sound.in_range tag seat (up_from k tag seat at);
         blinds = λ tag seat at. f.sound.blinds tag seat (up_from k tag seat at);
         tags = λ tag seat at. f.sound.tags tag seat (up_from k tag seat at);
       }
@@ -125,7 +125,7 @@ module _ (m : Model) (f : Fine m) (fresh : AllFresh m) where
           sound = sound_tested (up_to k) (up_sound k);
           within = record {
             tag_low = f.sound.tags k seat at;
-            terminal_low = omega (arith, f.sound.in_range_lem k seat at);
+            terminal_low = omega (arith, f.sound.in_range k seat at);
             fair = asked_allowed seat.blind.params ((params_decide seat.blind.params).tested (f.sound.blinds k seat at).params);
           };
           new = ap is_there (up_above k k (omega arith));

@@ -91,7 +91,7 @@ reads_as_written file good =
     let g : AllGood start (parts line_feed file) = all_good file good in
     let t : Told start g.lines g.plan = file_told file good in
     let said : plant_lines g.plan.model ≡ t.said =
-    sym (ap (λ (b : Bool). cond b (plant_lines g.plan.model) []) g.is_begun_lem) ∙ t.lines in
+    sym (ap (λ (b : Bool). cond b (plant_lines g.plan.model) []) g.is_begun) ∙ t.lines in
     sym (parts_back line_feed file)
     ∙ ap (between line_feed) g.whole
     ∙ sym (ended_parts line_feed g.lines)

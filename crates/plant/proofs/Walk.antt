@@ -42,7 +42,7 @@ pub record AllGood (p : Plan) (ps : List (List ℕ)) : Type 0 where
   pub whole : ps ≡ lines ++ [] ∷ []
   pub plan : Plan
   pub good : all_taken p lines ≡ some plan
-  pub is_begun_lem : is_begun plan ≡ true
+  pub is_begun : is_begun plan ≡ true
 
 -- a line with something after it
 pub walk_on : (number : ℕ) (p : Plan) (bytes : List ℕ) (rows : List (List ℕ)) → (rows ≡ [] → ⊥)
@@ -70,7 +70,7 @@ good_later p q bytes ps e g =
       whole = ap (λ (l : List (List ℕ)). bytes ∷ l) g.whole;
       plan = g.plan;
       good = ap (λ (o : Option Plan). if_there o none (λ n. all_taken n g.lines)) e ∙ g.good;
-      is_begun_lem = g.is_begun_lem;
+      is_begun = g.is_begun;
     }
 
 -- what a walk comes to: the number of the first bad line, or all lines are good
@@ -88,7 +88,7 @@ walk_ends number p ([] ∷ []) some-there = go (is_begun p) refl
   where
     go : (t : Bool) → is_begun p ≡ t → Ends number p ([] ∷ [])
     go true e =
-        inr (record { lines = []; whole = refl; plan = p; good = refl; is_begun_lem = e }, ap (λ (b : Bool). cond b (good_file p.model) (bad_in number)) e)
+        inr (record { lines = []; whole = refl; plan = p; good = refl; is_begun = e }, ap (λ (b : Bool). cond b (good_file p.model) (bad_in number)) e)
     go false e =
         inl (
           0,

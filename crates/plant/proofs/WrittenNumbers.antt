@@ -49,7 +49,7 @@ module _ (m : Model) (s : Sound m) where
       (ranges_decide (numbers_of seat.blind.params)).holds (asked_allowed seat.blind.params ((params_decide seat.blind.params).tested own)) in
       record {
         tag_short = omega (arith, s.tags tag seat at);
-        terminal_short = omega (arith, s.in_range_lem tag seat at);
+        terminal_short = omega (arith, s.in_range tag seat at);
         mudt_short = omega (arith, own.mudt_most);
         sst_short = omega (arith, own.sst_most);
         rpt_short = omega (arith, own.rpt_most);

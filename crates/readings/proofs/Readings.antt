@@ -72,7 +72,7 @@ module _ (m : Model) (cells : Cells) (read : (carried strip_rule m cells).answer
   unfolding commands seats_in
   strip_at sound tag seat at =
       ap (λ (l : List ℕ). get_or l seat.terminal 0) all_read
-      ∙ tabulate_at terminals (λ terminal. command_at terminal (seats_in m)) seat.terminal 0 (omega (arith, sound.in_range_lem tag seat at))
+      ∙ tabulate_at terminals (λ terminal. command_at terminal (seats_in m)) seat.terminal 0 (omega (arith, sound.in_range tag seat at))
       ∙ command_found places m.seats tag seat (sound.tags tag seat at) at (λ j other here same. sound.distinct j tag other seat here at same)
 
   -- "a terminal without a blind is 0"

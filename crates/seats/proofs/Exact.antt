@@ -41,11 +41,11 @@ module _ (m : Model) (tag : ℕ) where
       go (some seat) f e = record { seat = seat; at = f }
 
   pub busy_decides : Decides (is_busy (m.seats tag)) (BusyBlind tag m)
-  busy_decides = record { holds = λ e. go (m.seats tag) refl e; tested = λ h. ap is_busy h.at ∙ h.is_busy_lem }
+  busy_decides = record { holds = λ e. go (m.seats tag) refl e; tested = λ h. ap is_busy h.at ∙ h.is_busy }
     where
       go : (o : Option Seat) → m.seats tag ≡ o → is_busy o ≡ true → BusyBlind tag m
       go none f e = absurd (true≢false (sym e))
-      go (some seat) f e = record { seat = seat; at = f; is_busy_lem = e }
+      go (some seat) f e = record { seat = seat; at = f; is_busy = e }
 
 module _ (m : Model) (tagged : Tagged m) where
   seats_decide : (test : Seat → Bool) → Decides (some_seat test m) (SomeSeat test m)
@@ -67,8 +67,8 @@ module _ (m : Model) (tagged : Tagged m) where
       said
       (λ w.
       let both = (and (le from w.seat.terminal) (itself (busy w.seat.blind))).holds w.passes in
-      record { tag = w.tag; seat = w.seat; at = w.at; low = both.0; is_busy_lem = both.1 })
-      (λ u. record { tag = u.tag; seat = u.seat; at = u.at; passes = (and (le from u.seat.terminal) (itself (busy u.seat.blind))).tested (u.low, u.is_busy_lem) })
+      record { tag = w.tag; seat = w.seat; at = w.at; low = both.0; is_busy = both.1 })
+      (λ u. record { tag = u.tag; seat = u.seat; at = u.at; passes = (and (le from u.seat.terminal) (itself (busy u.seat.blind))).tested (u.low, u.is_busy) })
       (seats_decide (busy_above from))
 
   pub passing_decides : (from n : ℕ) → Decides (would_pass from n m) (Passing from n m)

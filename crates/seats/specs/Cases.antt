@@ -15,7 +15,7 @@ pub record HasBlind (tag : ℕ) (m : Model) : Type 0 where
 pub record BusyBlind (tag : ℕ) (m : Model) : Type 0 where
   pub seat : Seat
   pub at : m.seats tag ≡ some seat
-  pub is_busy_lem : busy seat.blind ≡ true
+  pub is_busy : busy seat.blind ≡ true
 
 -- A terminal from the first on and below the end is in use.
 pub record Used (from end : ℕ) (m : Model) : Type 0 where
@@ -31,7 +31,7 @@ pub record BusyFrom (from : ℕ) (m : Model) : Type 0 where
   pub seat : Seat
   pub at : m.seats tag ≡ some seat
   pub low : from ≤ seat.terminal
-  pub is_busy_lem : busy seat.blind ≡ true
+  pub is_busy : busy seat.blind ≡ true
 
 -- A terminal from this one on would pass 127 by rising n.
 pub record Passing (from n : ℕ) (m : Model) : Type 0 where

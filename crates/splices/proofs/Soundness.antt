@@ -80,7 +80,7 @@ module _ (m : Model) (cells : Cells) (f : Fine m) (t n : ℕ) where
         sound =
             each_sound (λ tag seat. record { terminal = moved t up down seat.terminal; blind = seat.blind }) m s
             (λ j k a b at_j at-k same. s.distinct j k a b at_j at-k (moved_apart t up down a.terminal b.terminal (free j a at_j) (free k b at-k) same))
-            (λ tag seat at. moved_on t up down seat.terminal (s.in_range_lem tag seat at) (stays_on m s.tags from up past tag seat at))
+            (λ tag seat at. moved_on t up down seat.terminal (s.in_range tag seat at) (stays_on m s.tags from up past tag seat at))
             s.blinds;
         full = f.full;
       }

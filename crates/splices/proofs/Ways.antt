@@ -80,7 +80,7 @@ module _ (t n : ℕ) (m : Model) where
             is_false (would_pass (t + n) 0 m)
             (λ e.
             let u = (passing_decides m tagged (t + n) 0).holds e in
-            omega (arith, u.past, s.in_range_lem u.tag u.seat u.at))
+            omega (arith, u.past, s.in_range u.tag u.seat u.at))
 
         go : (b : Bool) → is_sound m ≡ b → refusal ((splice_rule t n 0 n).checks m cells) ≡ refusal ((splice_out_rule t n).checks m cells)
         go true e =

@@ -95,7 +95,7 @@ sound_decided h = (reads, holds)
         let f : Fine h.links = (sound_reads h e).1 in
         record {
           at_most = (sound_reads h e).0;
-          in_range_lem = λ i k. range_holds (get_or h.links i nothing) (each_at h.links nothing i k f.ranged);
+          in_range = λ i k. range_holds (get_or h.links i nothing) (each_at h.links nothing i k f.ranged);
           ascending = λ i j k m.
               key_before (get_or h.links i nothing) (get_or h.links j nothing)
               (each_at h.links nothing i (omega arith) f.ranged) (each_at h.links nothing j m f.ranged)
@@ -106,7 +106,7 @@ sound_decided h = (reads, holds)
 
     holds : Sound h → is_sound h ≡ true
     holds s =
-        let range : (i : ℕ) → i < length h.links → InRange (get_or h.links i nothing) = λ i k. range_reads (get_or h.links i nothing) (s.in_range_lem i k) in
+        let range : (i : ℕ) → i < length h.links → InRange (get_or h.links i nothing) = λ i k. range_reads (get_or h.links i nothing) (s.in_range i k) in
         sound_holds h s.tidy s.at_most
         (record {
           ranged = each_of h.links nothing range;

@@ -15,7 +15,7 @@ most = 512
 -- What a sound table is, said of each link and of any two.
 pub record Sound (h : Held) : Type 0 where
   pub at_most : h.count ≤ most
-  pub in_range_lem : (i : ℕ) → i < length h.links → in_range (get_or h.links i nothing) ≡ true
+  pub in_range : (i : ℕ) → i < length h.links → in_range (get_or h.links i nothing) ≡ true
   pub ascending : (i j : ℕ) → i < j → j < length h.links → Before (get_or h.links i nothing) (get_or h.links j nothing)
   pub one_class : (i j : ℕ) → i < j → j < length h.links → (get_or h.links i nothing).address ≡ (get_or h.links j nothing).address
       → class_of (get_or h.links i nothing).kind ≡ class_of (get_or h.links j nothing).kind

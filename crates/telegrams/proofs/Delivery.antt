@@ -123,7 +123,7 @@ module _ (value : ℕ) (p : Panel) (start count : ℕ) where
       -- its tag is one of the 64
       pub tag_low : link.tag < places
       tag_low =
-          let range = range_reads (get_or (held_of p.table).links i nothing) (sound.links.in_range_lem i (omega (arith, full))) in
+          let range = range_reads (get_or (held_of p.table).links i nothing) (sound.links.in_range i (omega (arith, full))) in
           let low : (get_or (held_of p.table).links i nothing).tag < places = omega (arith, range.tag_high) in
           rw here at low
 

@@ -26,7 +26,7 @@ write_keeps m cells f tag a e =
     record {
       sound =
           subst (λ (o : Option Seat). Sound (reseated tag (map (seat_rewritten (params_of a)) o) m)) (sym here.at)
-          (seat_sound tag m (seat_rewritten (params_of a) here.seat) s ok.low (s.in_range_lem tag here.seat here.at)
+          (seat_sound tag m (seat_rewritten (params_of a) here.seat) s ok.low (s.in_range tag here.seat here.at)
           (rewritten_sound (params_of a) here.seat.blind (allowed_sound a ok.fair))
           (λ other seat apart at same. apart (s.distinct other tag seat here.seat at here.at same)));
       full = f.full;

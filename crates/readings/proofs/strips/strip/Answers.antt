@@ -33,7 +33,7 @@ bounds-cells-terminal c =
     let whole : is_sound (model_of p) ≡ true = sym (parts_decide p c.seats_sound-seated.ensures c.is_sound.ensures) ∙ c.if-not-is_sound.false in
     let sound : Sound (model_of p) = sound_panel p (search rules) whole in
     let low : get_or p.terminals c.loop-tag.tag 0 ≤ 127 =
-    sound.in_range_lem c.loop-tag.tag (place_of p c.loop-tag.tag) (seat_present p c.loop-tag.tag (sym c.has.ensures ∙ c.if-has.true)) in
+    sound.in_range c.loop-tag.tag (place_of p c.loop-tag.tag) (seat_present p c.loop-tag.tag (sym c.has.ensures ∙ c.if-has.true)) in
     omega (arith, low, c.loop-tag.invariant.long)
 
 pub loop-tag-preserved : goal.loop-tag-preserved
