@@ -88,8 +88,8 @@ together {tag} (inserted turn spares ∷ steps) blind a b k =
 together {tag} (reread file spares ∷ steps) blind a b k = absurd spares
 
 -- Demand 3. Any run is one of its own beginnings, so what is said of the end of a run holds at every point of it.
-pub same_run_lem : (tag : ℕ) (blind : Blind) (m : Model) → Fine m → blind_at tag m ≡ some blind → (steps : List (Step tag)) → SameRun tag steps m
-same_run_lem tag blind m fine e steps =
+pub same_run : (tag : ℕ) (blind : Blind) (m : Model) → Fine m → blind_at tag m ≡ some blind → (steps : List (Step tag)) → SameRun tag steps m
+same_run tag blind m fine e steps =
     let t = together steps blind m m (record { fine_a = fine; fine_b = fine; blind_a = e; blind_b = e; links = refl }) in
     let k = t.alike in
     record {

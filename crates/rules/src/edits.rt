@@ -1,4 +1,6 @@
 // Document 01, "Edits", for one blind: what the new parameters leave of it, and then who rules it.
+#![tactic(auto, unfolding(crate::specs::Edits::rewritten))]
+
 ghost use Rattle.std.specs.Prelude.{◌≡◌};
 ghost use Rattle.rules.specs.Edits.{rewritten};
 
@@ -8,7 +10,6 @@ use duties::rulers::duty;
 use heights::Place;
 use params::Params;
 
-#[tactic(auto, unfolding(crate::specs::Edits::rewritten))]
 pub fn rewrite(blind: Blind, params: Params) -> Blind
     ensures { result ≡ rewritten params blind }
 {

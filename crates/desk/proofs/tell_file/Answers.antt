@@ -23,9 +23,9 @@ returns c =
     -- no more is lent than there is
     let within : lent ≤ length c.clear-buffer.result = omega (arith, there, c.lent_of-lent.ensures) in
     let cells : take lent c.clear-buffer.result ≡ replicate (min a.asked room) 0 =
-        ap (take lent) c.clear-buffer.ensures
-        ∙ ap (λ (k : ℕ). take k (replicate room 0)) c.lent_of-lent.ensures
-        ∙ zeros_lent (min a.asked room) room (omega arith) in
+    ap (take lent) c.clear-buffer.ensures
+    ∙ ap (λ (k : ℕ). take k (replicate room 0)) c.lent_of-lent.ensures
+    ∙ zeros_lent (min a.asked room) room (omega arith) in
     with_file s
     (ap {B = Desk} (λ (s : Sheet). record { panel = model_of a.panel; page = s })
     (c.put_file-next.ensures

@@ -1,14 +1,7 @@
 -- The milliseconds that change place and length alone, and then the others one by one, are all of them.
 -- Assumes nothing.
-use Rattle.std.proofs.Common.{◌≡◌, ℕ, ◌-◌, min, sym, ap, ◌∙◌, arith}
-use Rattle.heights.specs.declared.Place.{Place}
-use Rattle.heights.specs.Heights.{place_after}
-use Rattle.runs.specs.declared.Run.{Run}
+use Rattle.std.proofs.Common.{◌∙◌}
 use Rattle.runs.specs.Millisecond.{shorter}
-use Rattle.blind.specs.declared.Motion.{Motion}
-use Rattle.blind.specs.declared.Blind.{Blind}
-use Rattle.blind.specs.Fields.{with_place, with_motion}
-use Rattle.milliseconds.specs.Milliseconds.{milliseconds}
 use Rattle.milliseconds.proofs.AtOnce.{whole}
 use Rattle.milliseconds.proofs.run_on.Goals as goal
 

@@ -9,7 +9,7 @@ use Rattle.scripts.proofs.follow.Goals as goal
 pub slice_bounds-try_line-end : goal.slice_bounds-try_line-end
 slice_bounds-try_line-end c =
     let within : c.line_end-end.result ≤ length c.args.script.now =
-        place_within 10 c.args.script.now c.loop-start.start _ (omega arith) c.line_end-end.ensures in
+    place_within 10 c.args.script.now c.loop-start.start _ (omega arith) c.line_end-end.ensures in
     let from : c.loop-start.start ≤ c.line_end-end.result = omega (arith, c.line_end-end.ensures) in
     search (rules, within, from)
 

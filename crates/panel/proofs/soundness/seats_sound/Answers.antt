@@ -36,17 +36,18 @@ pub loop-tag-preserved : goal.loop-tag-preserved
 loop-tag-preserved c =
     let p = unlinked c.args.present c.args.terminals c.args.blinds in
     let here : c.loop-tag.tag < 64 = omega arith in
-    elim c.if-has.branch
-        [ then-has+else-not-may_stand w ↦
-            pass_more (seats_of p) (taken_of c.loop-tag.met) c.loop-tag.tag (place_of p c.loop-tag.tag) (taken_of c.if-has.met) here
-            (seat_present p c.loop-tag.tag (sym c.has.ensures ∙ w.if-has.true))
-            (sym w.may_stand.ensures ∙ w.if-not-may_stand.false)
-            (ap taken_of w.met-is ∙ w.with-met.ensures)
-            c.loop-tag.invariant
-        | else-has w ↦
-            pass_absent (seats_of p) (taken_of c.if-has.met) c.loop-tag.tag here
-            (seat_absent p c.loop-tag.tag (sym c.has.ensures ∙ w.if-has.false))
-            (ap (λ (s : Strip). passes (taken_of s) (left (seats_of p) c.loop-tag.tag)) w.met-is ∙ c.loop-tag.invariant) ]
+    elim c.if-has.branch [
+      | then-has+else-not-may_stand w ↦
+          pass_more (seats_of p) (taken_of c.loop-tag.met) c.loop-tag.tag (place_of p c.loop-tag.tag) (taken_of c.if-has.met) here
+          (seat_present p c.loop-tag.tag (sym c.has.ensures ∙ w.if-has.true))
+          (sym w.may_stand.ensures ∙ w.if-not-may_stand.false)
+          (ap taken_of w.met-is ∙ w.with-met.ensures)
+          c.loop-tag.invariant
+      | else-has w ↦
+          pass_absent (seats_of p) (taken_of c.if-has.met) c.loop-tag.tag here
+          (seat_absent p c.loop-tag.tag (sym c.has.ensures ∙ w.if-has.false))
+          (ap (λ (s : Strip). passes (taken_of s) (left (seats_of p) c.loop-tag.tag)) w.met-is ∙ c.loop-tag.invariant)
+    ]
 
 pub returns : goal.returns
 returns c =
