@@ -6,6 +6,7 @@ use Rattle.splices.specs.Splices.{splice_in_rule}
 use Rattle.splices.proofs.Ways.{in_checks, in_leaves}
 use Rattle.splices.proofs.Shifts.{room, splices}
 use Rattle.splices.proofs.splice_in.Goals as goal
+
 pub shift_all-raised-requires : goal.shift_all-raised-requires
 shift_all-raised-requires c = room _ (search rules) _ _ _ _ c.judge-answer.ensures (omega arith)
 

@@ -6,6 +6,7 @@ use Rattle.splices.specs.Splices.{splice_out_rule}
 use Rattle.splices.proofs.Ways.{out_checks, out_leaves}
 use Rattle.splices.proofs.Shifts.{room, splices}
 use Rattle.splices.proofs.splice_out.Goals as goal
+
 pub shift_all-lowered-requires : goal.shift_all-lowered-requires
 shift_all-lowered-requires c = room _ (search rules) _ _ _ _ c.judge-answer.ensures (omega arith)
 
