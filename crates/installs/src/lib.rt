@@ -21,6 +21,7 @@ use terminals::TERMINALS;
 
 // Installs a fresh blind; refused by 12, 1, 4, 10, in this order.
 
+#[tactic(auto, unfolding(answers::specs::Answers::first))]
 pub fn install(mut panel: Panel, tag: u64, terminal: u64, asked: Asked) -> Answered
     ensures { Does (install_rule tag terminal (row_of asked)) panel no_cells result no_cells }
 {
@@ -59,6 +60,7 @@ pub fn install(mut panel: Panel, tag: u64, terminal: u64, asked: Asked) -> Answe
 }
 
 // What refuses a new blind before the terminals are looked through.
+#[tactic(auto, unfolding(answers::specs::Answers::first))]
 fn judge_new(sound: bool, present: Tags, tag: u64, terminal: u64, asked: Asked) -> u8
     ensures { result ≡ refusal ((not sound, 12) ∷ outside (leb places tag || (leb terminals terminal || not (allowed (row_of asked)))) ∷ (tags_of present tag, 4) ∷ []) }
 {

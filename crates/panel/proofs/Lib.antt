@@ -1,5 +1,6 @@
 pub mod Seats
 pub mod Walk
+pub mod Pass
 pub mod Names
 pub mod Decides
 pub mod Checks

@@ -33,6 +33,7 @@ pub fn is_sound(seats: bool, present: Tags, words: &[u32], count: usize) -> bool
 
 // Whether the seats are sound, whatever the links. A place whose tag is absent is passed over unread.
 
+#[tactic(auto, using(crate::proofs::Pass::any_links, crate::proofs::Pass::over_absent, crate::proofs::Pass::over_present, crate::proofs::Pass::stops))]
 pub fn seats_sound(present: Tags, terminals: [u8; CELLS], blinds: [Blind; CELLS]) -> bool
     ensures { (table : Table) → result ≡ sound_seats (model_of (panel_of present terminals blinds table)) }
 {

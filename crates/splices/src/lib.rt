@@ -105,6 +105,7 @@ fn is_off_strip(t: u64, n: u64) -> bool
 }
 
 // The terminals of the present tags move if nothing refuses.
+#[tactic(auto, using(laws::proofs::Fills::filled_more))]
 fn shift_all(
     answer: u8,
     present: Tags,

@@ -1,10 +1,9 @@
 -- The first three checks are judged at once; then what is left of the tags tells whether the terminal is in use as all of them do.
 -- Past all of them the place of the tag is written, and the tag is put in.
 -- Assumes nothing.
-use Rattle.std.proofs.Common.{◌≡◌, ℕ, ◌+◌, ◌<◌, false, [], ◌∷◌, length, refl, sym, ap, ◌∙◌, arith, rules}
+use Rattle.std.proofs.Common.{◌≡◌, ◌<◌, false, [], length, refl, sym, ap, ◌∙◌, arith, rules}
 use Rattle.std.proofs.Math.Option.{some}
 use Rattle.laws.proofs.Fills.{long}
-use Rattle.answers.specs.Answers.{refusal}
 use Rattle.answers.proofs.Refusals.{refused_by_lem, passed_by, none_left}
 use Rattle.blind.specs.declared.Blind.{Blind}
 use Rattle.params.specs.declared.Params.{Params}
@@ -12,7 +11,6 @@ use Rattle.params.specs.Numbers.{row_of}
 use Rattle.params.proofs.Rows.{accepted_set}
 use Rattle.blind.specs.Orders.{fresh_of}
 use Rattle.panel.specs.Panel.{model_of, reseated}
-use Rattle.panel.specs.Calls.{no_cells}
 use Rattle.panel.proofs.Decides.{parts_decide}
 use Rattle.panel.proofs.Rules.{refuses, refuses_with, does}
 use Rattle.panel.proofs.Seats.{seat_put}
@@ -49,29 +47,12 @@ returns-then-stands_within c =
 pub loop-other-preserved : goal.loop-other-preserved
 loop-other-preserved c = rest_more _ _ c.loop-other.other c.loop-other-test.true c.stands_within.ensures c.if-stands_within.false c.loop-other.invariant
 
-pub offset_bounds-panel-place : goal.offset_bounds-panel-place
-offset_bounds-panel-place c =
-    let p = c.args.panel in
-    let whole = parts_decide p c.seats_sound-seated.ensures c.is_sound-sound.ensures in
-    omega (arith, (new_inside p c.args.tag c.args.terminal (row_of c.args.asked) whole c.judge_new-answer.ensures c.if-answer-ne-DONE.false).tag_low)
-
-pub bounds-panel-place : goal.bounds-panel-place
-bounds-panel-place c =
-    let p = c.args.panel in
-    let whole = parts_decide p c.seats_sound-seated.ensures c.is_sound-sound.ensures in
-    (new_inside p c.args.tag c.args.terminal (row_of c.args.asked) whole c.judge_new-answer.ensures c.if-answer-ne-DONE.false).tag_low
-
 pub overflow_cast-panel : goal.overflow_cast-panel
 overflow_cast-panel c =
     let p = c.args.panel in
     let whole = parts_decide p c.seats_sound-seated.ensures c.is_sound-sound.ensures in
-    omega (arith, (new_inside p c.args.tag c.args.terminal (row_of c.args.asked) whole c.judge_new-answer.ensures c.if-answer-ne-DONE.false).terminal_low)
-
-pub bounds-panel-place-2 : goal.bounds-panel-place-2
-bounds-panel-place-2 c =
-    let p = c.args.panel in
-    let whole = parts_decide p c.seats_sound-seated.ensures c.is_sound-sound.ensures in
-    (new_inside p c.args.tag c.args.terminal (row_of c.args.asked) whole c.judge_new-answer.ensures c.if-answer-ne-DONE.false).tag_low
+    let low : Inside c.args.tag c.args.terminal (row_of c.args.asked) = new_inside p c.args.tag c.args.terminal (row_of c.args.asked) whole c.judge_new-answer.ensures c.if-answer-ne-DONE.false in
+    omega (arith, low.tag_low, low.terminal_low)
 
 pub returns : goal.returns
 unfolding install_rule in_use

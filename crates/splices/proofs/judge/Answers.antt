@@ -1,6 +1,6 @@
 -- The first two tests answer the checks that all calls share; the pass over the tags finds out what the other three ask.
 -- Assumes nothing.
-use Rattle.std.proofs.Common.{◌≡◌, ℕ, Bool, true, false, [], ◌∷◌, sym, ◌∙◌, arith}
+use Rattle.std.proofs.Common.{◌≡◌, Bool, true, false, [], ◌∷◌, sym, ◌∙◌, arith}
 use Rattle.answers.specs.Answers.{refusal}
 use Rattle.panel.specs.Panel.{model_of}
 use Rattle.panel.specs.Sound.{is_sound}

@@ -1,19 +1,12 @@
 -- The pass over what is left of the tags, with the terminals met so far, decides as the whole test does.
 -- Assumes nothing.
-use Rattle.std.proofs.Common.{◌≡◌, ℕ, List, []}
-use Rattle.tags.specs.declared.Tags.{Tags}
-use Rattle.blind.specs.declared.Blind.{Blind}
-use Rattle.panel.specs.declared.Panel.{Panel}
+use Rattle.std.proofs.Common.{◌≡◌}
 use Rattle.panel.specs.Panel.{seats_of, model_of}
-use Rattle.panel.specs.Fields.{panel_of}
 use Rattle.terminals.specs.Strip.{taken_of}
 use Rattle.panel.specs.Sound.{sound_seats}
 use Rattle.panel.proofs.Walk.{passes, left}
+use Rattle.panel.proofs.Pass.{unlinked}
 use Rattle.panel.proofs.soundness.seats_sound.Given as goal
-
--- the panel of these seats, without links
-abbrev pub unlinked : Tags → List ℕ → List Blind → Panel
-unlinked present terminals blinds = panel_of present terminals blinds (record { count = 0; words = [] })
 
 abbrev pub invariant-loop-tag : goal.invariant-loop-tag
 invariant-loop-tag l =
