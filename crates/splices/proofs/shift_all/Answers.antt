@@ -1,4 +1,4 @@
--- Past the test of the answer each turn writes one place more; at the end all of them are written.
+-- At the start no place is written; at the end all of them are. A turn writes one place more, by the law in the attribute.
 -- Assumes nothing.
 use Rattle.std.proofs.Common.{◌≡◌, ℕ, sym, ap, ◌∙◌, arith}
 use borrow.Author.Tests.{eq-eqb}

@@ -1,4 +1,4 @@
--- A present tag's seat takes its terminal; an absent tag is passed over.
+-- At the start no terminal is taken, and at the end no tag is left. What a turn does is in proofs/Pass, by name in the attribute.
 -- Assumes nothing.
 use Rattle.std.proofs.Common.{sym, ◌∙◌, arith}
 use Rattle.panel.specs.Panel.{seats_of, model_of}
