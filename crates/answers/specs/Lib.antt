@@ -2,3 +2,4 @@ pub mod Answers
 pub mod Cases
 pub mod Rules
 pub mod Runs
+pub mod Numbers

@@ -8,23 +8,23 @@ use mathlib.Core.Bool.{Bool, true, false, cond, ◌&&◌, and-true, and-false, a
 use mathlib.Core.List.{List, [], ◌∷◌, ◌++◌, map}
 use lib.ListN.{length, get_or, drop, set, replicate, length-map, drop_of_length-le}
 use lib.Seq.{sets, sets-eq, get_or-drop}
+use Rattle.std.specs.Prelude.{Option, Some, None}
 use Rattle.laws.specs.Every.{every}
 use Rattle.laws.proofs.Choices.{both_left, both_right}
 use Rattle.words.specs.Words.{words, blanks, letters}
 use Rattle.words.proofs.WordByWord.{part, same_words, one_word}
-use Rattle.decimals.specs.declared.Number.{Number}
 use Rattle.decimals.specs.Decimals.{value_of, number_if, number_of}
 use Rattle.arguments.specs.declared.Arguments.{Arguments}
 use Rattle.arguments.specs.Arguments.{most, nothing, one_more, with, heard_by, heard, value_at}
 
 -- ---- how many there are
 
-one_more_lem : (a : Arguments) (word : Number) → (with a word).count ≡ one_more a.count
+one_more_lem : (a : Arguments) (word : Option ℕ) → (with a word).count ≡ one_more a.count
 unfolding with
-one_more_lem a Number.Nothing = refl
-one_more_lem a (Number.Of value) = refl
+one_more_lem a None = refl
+one_more_lem a (Some value) = refl
 
-pub counted : (read : List ℕ → Number) (a : Arguments) (words : List (List ℕ)) → a.count ≤ most + 1
+pub counted : (read : List ℕ → Option ℕ) (a : Arguments) (words : List (List ℕ)) → a.count ≤ most + 1
     → (heard_by read a words).count ≡ min (a.count + length words) (most + 1)
 unfolding heard_by
 counted read a [] h = omega arith
@@ -58,7 +58,7 @@ module _ (passes : List ℕ → Bool) where
   unfolding with
   with_number a word = go (passes word)
     where
-      go : (t : Bool) → (with a (cond t (Number.Of (value_of word)) Number.Nothing)).numeric ≡ a.numeric && t
+      go : (t : Bool) → (with a (cond t (Some (value_of word)) None)).numeric ≡ a.numeric && t
       go true = sym (and-true a.numeric)
       go false = sym (and-false a.numeric)
 
@@ -78,8 +78,8 @@ module _ (passes : List ℕ → Bool) where
   with_value a word e h = go (passes word) e
     where
       go : (t : Bool) → t ≡ true
-          → ((with a (cond t (Number.Of (value_of word)) Number.Nothing)).count ≡ suc a.count)
-          × ((with a (cond t (Number.Of (value_of word)) Number.Nothing)).values ≡ set a.values a.count (value_of word))
+          → ((with a (cond t (Some (value_of word)) None)).count ≡ suc a.count)
+          × ((with a (cond t (Some (value_of word)) None)).values ≡ set a.values a.count (value_of word))
       go true e = (omega arith, refl)
       go false e = absurd (true≢false (sym e))
 
@@ -115,7 +115,7 @@ pub heard_start : (line : List ℕ) (from at : ℕ) {a : Arguments} → a ≡ no
     → heard a (words (drop at line)) ≡ heard nothing (words (drop from line))
 heard_start line from at empty e = ap₂ heard empty (same_words line from at e)
 
-pub heard_more : (line : List ℕ) (at end next : ℕ) (a : Arguments) {b whole : Arguments} {word : Number}
+pub heard_more : (line : List ℕ) (at end next : ℕ) (a : Arguments) {b whole : Arguments} {word : Option ℕ}
     → at < length line → blanks (drop at line) ≡ 0 → end ≡ at + letters (drop at line)
     → word ≡ number_of (part at end line) → b ≡ with a word → next ≡ end + blanks (drop end line)
     → heard a (words (drop at line)) ≡ whole → heard b (words (drop next line)) ≡ whole

@@ -2,8 +2,7 @@
 -- whether all are numbers, and the values that are kept. proofs/Collected says the same of the words all at once. How a word is
 -- read is left open, so the fields of another text are collected in the same way.
 -- Assumes nothing.
-use Rattle.std.specs.Prelude.{ℕ, ◌+◌, min, true, false, List, [], ◌∷◌, get_or, set, replicate}
-use Rattle.decimals.specs.declared.Number.{Number}
+use Rattle.std.specs.Prelude.{ℕ, ◌+◌, min, true, false, Option, Some, None, List, [], ◌∷◌, get_or, set, replicate}
 use Rattle.decimals.specs.Decimals.{number_of}
 use Rattle.arguments.specs.declared.Arguments.{Arguments}
 
@@ -20,12 +19,12 @@ abbrev pub one_more : ℕ → ℕ
 one_more count = min (count + 1) (most + 1)
 
 -- One word more: it counts, and its value is kept while there is a place for it.
-unfoldable pub with : Arguments → Number → Arguments
-with a Number.Nothing = record { count = one_more a.count; numeric = false; values = a.values }
-with a (Number.Of value) = record { count = one_more a.count; numeric = a.numeric; values = set a.values a.count value }
+unfoldable pub with : Arguments → Option ℕ → Arguments
+with a None = record { count = one_more a.count; numeric = false; values = a.values }
+with a (Some value) = record { count = one_more a.count; numeric = a.numeric; values = set a.values a.count value }
 
 -- All words of a list one after the other, each read in one way.
-unfoldable pub heard_by : (List ℕ → Number) → Arguments → List (List ℕ) → Arguments
+unfoldable pub heard_by : (List ℕ → Option ℕ) → Arguments → List (List ℕ) → Arguments
 heard_by read a [] = a
 heard_by read a (word ∷ words) = heard_by read (with a (read word)) words
 

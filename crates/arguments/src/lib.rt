@@ -4,9 +4,9 @@
 
 ghost use Rattle.std.specs.Prelude.{◌≡◌, drop};
 ghost use Rattle.words.specs.Words.{words};
-ghost use Rattle.arguments.specs.Arguments.{nothing, one_more, with, heard};
+ghost use Rattle.arguments.specs.Arguments.{nothing, with, heard};
 
-use decimals::{Number, read_number};
+use decimals::read_number;
 use words::{word_end, word_start};
 
 // The most arguments that are kept.
@@ -16,8 +16,9 @@ pub const MOST: usize = 12;
 pub struct Arguments {
     // How many there are, or one more than are kept.
     pub count: usize,
-    // Whether each is a number.
+    // Whether each is a number: a flag, since the definition `judged` (crate commands) tells a wrong count before it.
     pub numeric: bool,
+    // A row and not a Vec: no crate has a heap. Past its end words are still counted.
     pub values: [u64; MOST],
 }
 
@@ -39,6 +40,7 @@ impl Arguments {
         ensures { result ≡ heard nothing (words (drop from line.now)) }
     {
         let mut heard = Arguments::nothing();
+        // Not counted: each turn goes on from where its word ends.
         let mut at = word_start(line, from);
         while at < line.len() {
             let end = word_end(line, at);
@@ -51,38 +53,16 @@ impl Arguments {
 
     // One word more.
     #[tactic(auto, unfolding(crate::specs::Arguments::with))]
-    pub fn with(self, word: Number) -> Arguments
+    pub fn with(self, word: Option<u64>) -> Arguments
         ensures { result ≡ with self word }
     {
-        match word {
-            Number::Nothing => Arguments {
-                count: one_more(self.count),
-                numeric: false,
-                ..self
-            },
-            Number::Of(value) => self.with_value(value),
-        }
-    }
-
-    #[tactic(auto, unfolding(crate::specs::Arguments::with))]
-    fn with_value(self, value: u64) -> Arguments
-        ensures { result ≡ with self (Number.Of value) }
-    {
-        let at = self.count;
         let mut heard = self;
-        if at < MOST {
-            heard.values[at] = value;
+        match word {
+            None => heard.numeric = false,
+            Some(value) if self.count < MOST => heard.values[self.count] = value,
+            Some(_) => {}
         }
-        heard.count = one_more(at);
+        heard.count = self.count.min(MOST) + 1;
         heard
     }
-}
-
-fn one_more(count: usize) -> usize
-    ensures { result ≡ one_more count }
-{
-    if MOST < count {
-        return MOST + 1;
-    }
-    count + 1
 }

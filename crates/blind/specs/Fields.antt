@@ -1,10 +1,9 @@
 -- A blind with one of its fields set anew and every other as it was, and the flags of which none is on.
 -- Assumes nothing.
-use Rattle.std.specs.Prelude.{false}
+use Rattle.std.specs.Prelude.{false, Option, None}
 use Rattle.params.specs.declared.Params.{Params}
+use Rattle.heights.specs.declared.Direction.{Direction}
 use Rattle.heights.specs.declared.Place.{Place}
-use Rattle.runs.specs.declared.Last.{Last}
-use Rattle.blind.specs.declared.Forced.{Forced}
 use Rattle.blind.specs.declared.Flags.{Flags}
 use Rattle.blind.specs.declared.Motion.{Motion}
 use Rattle.blind.specs.declared.Blind.{Blind}
@@ -21,7 +20,7 @@ abbrev pub with_place : Place → Blind → Blind
 with_place place b =
     record { params = b.params; flags = b.flags; place = place; last = b.last; motion = b.motion }
 
-abbrev pub with_last : Last → Blind → Blind
+abbrev pub with_last : Option Direction → Blind → Blind
 with_last last b =
     record { params = b.params; flags = b.flags; place = b.place; last = last; motion = b.motion }
 
@@ -30,4 +29,4 @@ with_motion motion b =
     record { params = b.params; flags = b.flags; place = b.place; last = b.last; motion = motion }
 
 abbrev pub no_flags : Flags
-no_flags = record { wind = false; rain = false; frost = false; forced = Forced.No }
+no_flags = record { wind = false; rain = false; frost = false; forced = None }

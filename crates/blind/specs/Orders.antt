@@ -1,9 +1,8 @@
 -- Document 01, "Orders": what an order and a stop do, and the fresh blind.
 -- Assumes nothing.
-use Rattle.std.specs.Prelude.{ℕ, cond}
+use Rattle.std.specs.Prelude.{ℕ, cond, None}
 use Rattle.params.specs.declared.Params.{Params}
 use Rattle.heights.specs.Heights.{unknown}
-use Rattle.runs.specs.declared.Last.{Last}
 use Rattle.runs.specs.declared.Run.{Run}
 use Rattle.runs.specs.Orders.{last_of, same, must_wait}
 use Rattle.blind.specs.declared.Motion.{Motion}
@@ -53,4 +52,4 @@ stopped b = stopped_at b.motion b
 
 -- "A fresh blind has position 0, not valid, no flags, last direction "either" and rest time RPT."
 unfoldable pub fresh_of : Params → Blind
-fresh_of p = record { params = p; flags = no_flags; place = unknown; last = Last.Either; motion = Motion.Off p.rpt }
+fresh_of p = record { params = p; flags = no_flags; place = unknown; last = None; motion = Motion.Off p.rpt }

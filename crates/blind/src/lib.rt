@@ -8,38 +8,33 @@ mod orders;
 ghost use Rattle.std.specs.Prelude.{◌≡◌};
 ghost use Rattle.blind.specs.Fields.{with_motion};
 
-use heights::Place;
+use heights::{Direction, Place};
 use params::Params;
-use runs::{Last, Run};
+use runs::Run;
 
-#[derive(Clone, Copy)]
-pub enum Forced {
-    No,
-    Up,
-    Down,
-}
-
-#[derive(Clone, Copy)]
+// The alarms, each on or off with no value beside it, and the direction of the forced input, if it has one.
+#[derive(Clone, Copy, PartialEq, Eq)]
 pub struct Flags {
     pub wind: bool,
     pub rain: bool,
     pub frost: bool,
-    pub forced: Forced,
+    pub forced: Option<Direction>,
 }
 
 // What the motor does. The rest time stands only where the motor is off: while it runs there is none.
-#[derive(Clone, Copy)]
+#[derive(Clone, Copy, PartialEq, Eq)]
 pub enum Motion {
     Off(u32),
     Waits(u32, Run),
     Runs(Run),
 }
 
+// The last direction is the one in which the motor started last; a fresh blind has either, and so it has none.
 #[derive(Clone, Copy)]
 pub struct Blind {
     pub params: Params,
     pub flags: Flags,
-    pub last: Last,
+    pub last: Option<Direction>,
     pub place: Place,
     pub motion: Motion,
 }

@@ -12,8 +12,7 @@ impl Blind {
     pub fn millisecond(self) -> Blind
         ensures { result ≡ millisecond self }
     {
-        let motion = self.motion;
-        match motion {
+        match self.motion {
             Motion::Off(rest) => self.with_motion(Motion::Off(left(rest, 1))),
             Motion::Waits(rest, run) => self.wait(rest, run),
             Motion::Runs(run) => self.run(run),
@@ -34,8 +33,7 @@ impl Blind {
     fn run(self, run: Run) -> Blind
         ensures { result ≡ ran run self }
     {
-        let direction = run.direction;
-        let moved = self.moved(direction);
+        let moved = self.moved(run.direction);
         let shorter = Run {
             length: left(run.length, 1),
             ..run

@@ -3,28 +3,27 @@
 ghost use Rattle.std.specs.Prelude.{◌≡◌};
 ghost use Rattle.blind.specs.Orders.{started, ordered_off, ordered, motor_off, stopped, fresh_of};
 
-use crate::{Blind, Flags, Forced, Motion};
+use crate::{Blind, Flags, Motion};
 use heights::Place;
 use params::Params;
-use runs::{Last, Run};
+use runs::Run;
 
 impl Blind {
     #[tactic(auto, unfolding(crate::specs::Orders::fresh_of))]
     pub fn fresh(params: Params) -> Blind
         ensures { result ≡ fresh_of params }
     {
-        let pause = params.pause();
         Blind {
             params,
             flags: Flags {
                 wind: false,
                 rain: false,
                 frost: false,
-                forced: Forced::No,
+                forced: None,
             },
             place: Place::UNKNOWN,
-            last: Last::Either,
-            motion: Motion::Off(pause),
+            last: None,
+            motion: Motion::Off(params.pause()),
         }
     }
 
@@ -32,16 +31,13 @@ impl Blind {
     pub fn order(self, run: Run) -> Blind
         ensures { result ≡ ordered run self }
     {
-        let motion = self.motion;
-        match motion {
-            Motion::Off(rest) => self.order_off(rest, run),
-            Motion::Waits(rest, _) => self.order_off(rest, run),
+        match self.motion {
+            Motion::Off(rest) | Motion::Waits(rest, _) => self.order_off(rest, run),
             Motion::Runs(running) => {
                 let next = if run.goes_on(running.last()) {
                     Motion::Runs(run)
                 } else {
-                    let pause = self.params.pause();
-                    Motion::Waits(pause, run)
+                    Motion::Waits(self.params.pause(), run)
                 };
                 self.with_motion(next)
             }
@@ -52,8 +48,7 @@ impl Blind {
     fn order_off(self, rest: u32, run: Run) -> Blind
         ensures { result ≡ ordered_off rest run self }
     {
-        let last = self.last;
-        if run.must_wait(rest, last) {
+        if run.must_wait(rest, self.last) {
             // Written out: by `with_motion` a telegram to many links takes longer.
             return Blind {
                 motion: Motion::Waits(rest, run),
@@ -68,9 +63,8 @@ impl Blind {
     pub(crate) fn start(self, run: Run) -> Blind
         ensures { result ≡ started run self }
     {
-        let last = run.last();
         Blind {
-            last,
+            last: run.last(),
             motion: Motion::Runs(run),
             ..self
         }
@@ -80,8 +74,7 @@ impl Blind {
     pub fn stop(self) -> Blind
         ensures { result ≡ stopped self }
     {
-        let motion = self.motion;
-        match motion {
+        match self.motion {
             Motion::Off(_) => self,
             Motion::Waits(rest, _) => self.with_motion(Motion::Off(rest)),
             Motion::Runs(_) => self.motor_off(),
@@ -93,7 +86,6 @@ impl Blind {
     pub(crate) fn motor_off(self) -> Blind
         ensures { result ≡ motor_off self }
     {
-        let whole = self.params.pause();
-        self.with_motion(Motion::Off(whole))
+        self.with_motion(Motion::Off(self.params.pause()))
     }
 }

@@ -1,16 +1,15 @@
 -- Answer lines, `show`: a blind with all that it holds.
 -- Assumes nothing.
-use Rattle.std.specs.Prelude.{ℕ, Bool, cond, List, [], ◌∷◌, length, get_or}
-use Rattle.runs.specs.declared.Last.{Last}
+use Rattle.std.specs.Prelude.{ℕ, Bool, cond, Option, Some, None, List, [], ◌∷◌, length, get_or}
+use Rattle.heights.specs.declared.Direction.{Direction}
 use Rattle.blind.specs.declared.Blind.{Blind}
 use Rattle.blind.specs.declared.Flags.{Flags}
-use Rattle.blind.specs.declared.Forced.{Forced}
 use Rattle.params.specs.Numbers.{numbers_of}
 use Rattle.texts.specs.Text.{text}
 use Rattle.texts.specs.Sheet.{joined, each}
 use Rattle.decimals.specs.Decimals.{decimal}
 use Rattle.shows.specs.Numbers.{spaced}
-use Rattle.motion_text.specs.MotionText.{motion_text}
+use Rattle.motion_text.specs.MotionText.{direction_text, motion_text}
 
 -- The numbers of a set in their order, each with a space before it.
 unfoldable pub set_text : List ℕ → List ℕ
@@ -24,15 +23,15 @@ alarms_text flags =
     ∷ cond flags.frost (text "f") (text "-") ∷ [])
 
 -- "Forced and last are -, up or down."
-unfoldable pub forced_text : Forced → List ℕ
-forced_text Forced.No = text " forced=-"
-forced_text Forced.Up = text " forced=up"
-forced_text Forced.Down = text " forced=down"
+unfoldable pub way_text : Option Direction → List ℕ
+way_text None = text "-"
+way_text (Some direction) = direction_text direction
 
-unfoldable pub last_text : Last → List ℕ
-last_text Last.Either = text " last=-"
-last_text Last.Up = text " last=up"
-last_text Last.Down = text " last=down"
+unfoldable pub forced_text : Option Direction → List ℕ
+forced_text forced = joined (text " forced=" ∷ way_text forced ∷ [])
+
+unfoldable pub last_text : Option Direction → List ℕ
+last_text last = joined (text " last=" ∷ way_text last ∷ [])
 
 -- "Valid is 0 or 1."
 unfoldable pub position_text : ℕ → Bool → List ℕ

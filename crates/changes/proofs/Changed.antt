@@ -1,22 +1,20 @@
 -- Whether a telegram changed a blind: the test of the flags, the last direction and the motion decides it, since every other field
 -- stays as it was. Assumes nothing.
 use Prim.Native.Nat.{ℕ}
-use native.Mathlib.Omega.{arith}
 use mathlib.Core.Path.{◌≡◌, refl, sym, ap}
 use mathlib.Core.Bool.{cond}
 use lib.Dec.{eqb}
+use Rattle.std.specs.Prelude.{Option, Some, None}
 use Rattle.laws.specs.Decides.{Decides}
 use Rattle.laws.proofs.Deciding.{eq, same_truth, same_case, never, and, neither, said}
 use Rattle.heights.specs.declared.Direction.{Direction}
 use Rattle.runs.specs.declared.Goal.{Goal}
-use Rattle.runs.specs.declared.Last.{Last}
 use Rattle.runs.specs.declared.Run.{Run}
-use Rattle.blind.specs.declared.Forced.{Forced}
 use Rattle.blind.specs.declared.Flags.{Flags}
 use Rattle.blind.specs.declared.Motion.{Motion}
 use Rattle.blind.specs.declared.Blind.{Blind}
 use Rattle.conduct.specs.Courses.{Stands}
-use Rattle.blind.specs.Numbers.{forced_number, last_number, direction_number, goal_number}
+use Rattle.blind.specs.Numbers.{last_number, direction_number, goal_number}
 use Rattle.changes.specs.Changes.{same_flags, same_run, is_off, is_waiting, is_running, same_motion, changed}
 
 -- ---- each case is told by its number
@@ -24,21 +22,13 @@ use Rattle.changes.specs.Changes.{same_flags, same_run, is_off, is_waiting, is_r
 abbrev of_three : {A : Type 0} → A → A → A → ℕ → A
 of_three none one two n = cond (eqb n 1) one (cond (eqb n 2) two none)
 
-forced_decides : (f g : Forced) → Decides (eqb (forced_number f) (forced_number g)) (f ≡ g)
-forced_decides = same_case forced_number (of_three Forced.No Forced.Up Forced.Down) told
+last_decides : (l m : Option Direction) → Decides (eqb (last_number l) (last_number m)) (l ≡ m)
+last_decides = same_case last_number (of_three None (Some Direction.Up) (Some Direction.Down)) told
   where
-    told : (f : Forced) → of_three Forced.No Forced.Up Forced.Down (forced_number f) ≡ f
-    told Forced.No = refl
-    told Forced.Up = refl
-    told Forced.Down = refl
-
-last_decides : (l m : Last) → Decides (eqb (last_number l) (last_number m)) (l ≡ m)
-last_decides = same_case last_number (of_three Last.Either Last.Up Last.Down) told
-  where
-    told : (l : Last) → of_three Last.Either Last.Up Last.Down (last_number l) ≡ l
-    told Last.Either = refl
-    told Last.Up = refl
-    told Last.Down = refl
+    told : (l : Option Direction) → of_three None (Some Direction.Up) (Some Direction.Down) (last_number l) ≡ l
+    told None = refl
+    told (Some Direction.Up) = refl
+    told (Some Direction.Down) = refl
 
 direction_decides : (d e : Direction) → Decides (eqb (direction_number d) (direction_number e)) (d ≡ e)
 direction_decides = same_case direction_number (of_three Direction.Up Direction.Up Direction.Down) told
@@ -63,7 +53,7 @@ flags_decide f g =
     said
     (λ (((w, r), fr), fo). λ i. record { wind = w i; rain = r i; frost = fr i; forced = fo i })
     (λ e. (((ap (λ (x : Flags). x.wind) e, ap (λ (x : Flags). x.rain) e), ap (λ (x : Flags). x.frost) e), ap (λ (x : Flags). x.forced) e))
-    (and (and (and (same_truth f.wind g.wind) (same_truth f.rain g.rain)) (same_truth f.frost g.frost)) (forced_decides f.forced g.forced))
+    (and (and (and (same_truth f.wind g.wind) (same_truth f.rain g.rain)) (same_truth f.frost g.frost)) (last_decides f.forced g.forced))
 
 run_decides : (one other : Run) → Decides (same_run one other) (one ≡ other)
 unfolding same_run
@@ -76,17 +66,17 @@ run_decides one other =
 motion_decides : (one other : Motion) → Decides (same_motion one other) (one ≡ other)
 unfolding same_motion is_off is_waiting is_running
 motion_decides (Motion.Off rest) (Motion.Off other) = said (λ e. ap (λ (n : ℕ). Motion.Off n) e) (λ e. cc) (eq rest other)
-motion_decides (Motion.Off rest) (Motion.Waits other order) = never (λ e. let z : ◌≡◌ {A = ℕ} 0 1 = cc in omega arith)
-motion_decides (Motion.Off rest) (Motion.Runs run) = never (λ e. let z : ◌≡◌ {A = ℕ} 0 1 = cc in omega arith)
-motion_decides (Motion.Waits rest run) (Motion.Off other) = never (λ e. let z : ◌≡◌ {A = ℕ} 0 1 = cc in omega arith)
+motion_decides (Motion.Off rest) (Motion.Waits other order) = never (λ e. cc)
+motion_decides (Motion.Off rest) (Motion.Runs run) = never (λ e. cc)
+motion_decides (Motion.Waits rest run) (Motion.Off other) = never (λ e. cc)
 motion_decides (Motion.Waits rest run) (Motion.Waits other order) =
     said
     (λ (r, o). λ i. Motion.Waits (r i) (o i))
     (λ e. (cc, cc))
     (and (eq rest other) (run_decides run order))
-motion_decides (Motion.Waits rest run) (Motion.Runs other) = never (λ e. let z : ◌≡◌ {A = ℕ} 0 1 = cc in omega arith)
-motion_decides (Motion.Runs run) (Motion.Off rest) = never (λ e. let z : ◌≡◌ {A = ℕ} 0 1 = cc in omega arith)
-motion_decides (Motion.Runs run) (Motion.Waits rest order) = never (λ e. let z : ◌≡◌ {A = ℕ} 0 1 = cc in omega arith)
+motion_decides (Motion.Waits rest run) (Motion.Runs other) = never (λ e. cc)
+motion_decides (Motion.Runs run) (Motion.Off rest) = never (λ e. cc)
+motion_decides (Motion.Runs run) (Motion.Waits rest order) = never (λ e. cc)
 motion_decides (Motion.Runs run) (Motion.Runs other) = said (λ e. ap (λ (r : Run). Motion.Runs r) e) (λ e. cc) (run_decides run other)
 
 -- ---- the whole blind

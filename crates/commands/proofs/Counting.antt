@@ -8,6 +8,7 @@ use mathlib.Core.Bool.{Bool, true, false, cond, ◌||◌}
 use mathlib.Core.List.{List, [], ◌∷◌}
 use lib.Dec.{eqb, leb}
 use borrow.Author.Tests.{leb-true, leb-false, eqb-true}
+use Rattle.std.specs.Prelude.{Option, Some, None}
 use Rattle.laws.specs.Every.{every}
 use Rattle.laws.proofs.Choices.{both_left, both_right}
 use Rattle.texts.specs.Text.{text, same}
@@ -21,18 +22,23 @@ use Rattle.arguments.specs.Arguments.{most}
 small : Entry → Bool
 small entry = leb (entry.plain + entry.more) most
 
-small_in : (rows : List (String × Entry)) (word : List ℕ) → every (λ row. small row.1) rows ≡ true → small (entry_in rows word) ≡ true
+-- the same of what a word may name
+abbrev pub Fits : Option Entry → Type 0
+Fits None = Unit {0}
+Fits (Some entry) = entry.plain + entry.more ≤ most
+
+small_in : (rows : List (String × Entry)) (word : List ℕ) → every (λ row. small row.1) rows ≡ true → Fits (entry_in rows word)
 unfolding small entry_in entry_for every
-small_in [] word e = refl
+small_in [] word e = tt
 small_in (row ∷ rows) word e = go (same word (text row.0)) (small_in rows word (both_right (small row.1) _ e))
   where
-    go : (t : Bool) → small (entry_in rows word) ≡ true → small (cond t row.1 (entry_in rows word)) ≡ true
-    go true others = both_left (small row.1) _ e
+    go : (t : Bool) → Fits (entry_in rows word) → Fits (cond t (Some row.1) (entry_in rows word))
+    go true others = leb-true _ most (both_left (small row.1) _ e)
     go false others = others
 
-pub of_table : (word : List ℕ) → (entry_of word).plain + (entry_of word).more ≤ most
+pub of_table : (word : List ℕ) → Fits (entry_of word)
 unfolding small entry_of every
-of_table word = leb-true _ most (small_in table word refl)
+of_table word = small_in table word refl
 
 -- ---- so no command takes more
 

@@ -1,13 +1,13 @@
 -- The words of a line after a place, and its second word, from where they start and end.
 -- Assumes nothing.
-use Prim.Native.Nat.{ℕ, zero, suc, ◌+◌, ◌-◌, ◌≤◌, ◌<◌}
+use Prim.Native.Nat.{ℕ, ◌+◌, ◌-◌, ◌≤◌, ◌<◌}
 use native.Mathlib.Omega.{arith}
 use mathlib.Core.Path.{◌≡◌, refl, sym, ap, ◌∙◌}
 use mathlib.Core.Bool.{Bool, true, false, cond, not}
 use mathlib.Core.List.{List, [], ◌∷◌}
-use lib.ListN.{length, get_or, take, drop, length-drop, drop_of_length-le}
-use lib.Seq.{take-nil, take-take}
-use lib.Dec.{ltb}
+use lib.ListN.{length, get_or, take, drop, length-drop, length-take, drop_of_length-le}
+use lib.Seq.{take-nil}
+use lib.Dec.{eqb, ltb}
 use borrow.Author.Tests.{ltb-true, ltb-false}
 use Rattle.words.specs.Words.{is_blank, words, front, blanks, letters}
 use Rattle.words.proofs.NextWord.{front_within}
@@ -15,7 +15,7 @@ use Rattle.words.proofs.WordByWord.{part, past_blanks, same_words, one_word}
 use Rattle.file_word.specs.FileWord.{is_file}
 use Rattle.commands.specs.declared.Fault.{Fault}
 use Rattle.commands.specs.declared.Meaning.{Meaning}
-use Rattle.commands.specs.Lines.{second_of, file_meant}
+use Rattle.commands.specs.Lines.{without_return, second_of, file_in, file_meant}
 
 -- ---- the words after a place
 
@@ -88,19 +88,33 @@ module _ (line : List ℕ) (name after from to : ℕ) (begins : name ≡ 0 + bla
           let over : length line ≤ name = ltb-false _ _ e in
           past_end line from to (omega arith) ∙ sym (ap second_of (none_after line 0 name begins over))
 
--- ---- a part of the front of a line is the same part of the line
+-- ---- it is no longer than its line
 
-pub part_of_front : (line : List ℕ) (end from to : ℕ) → to ≤ end → part from to (take end line) ≡ part from to line
-part_of_front line end zero to h =
-    let all : to ≡ to - 0 = omega arith in
-    ap (λ (k : ℕ). take k (take end line)) (sym all) ∙ take-take to end line h ∙ ap (λ (k : ℕ). take k line) all
-part_of_front line end (suc from) zero h =
-    let none : 0 ≡ 0 - suc from = omega arith in
-    ap (λ (k : ℕ). take k (drop (suc from) (take end line))) (sym none) ∙ ap (λ (k : ℕ). take k (drop (suc from) line)) none
-part_of_front line zero (suc from) (suc to) h = absurd (omega arith)
-part_of_front [] (suc end) (suc from) (suc to) h = refl
-part_of_front (byte ∷ bytes) (suc end) (suc from) (suc to) h =
-    let fewer : to - from ≡ suc to - suc from = omega arith in
-    ap (λ (k : ℕ). take k (drop from (take end bytes))) (sym fewer)
-    ∙ part_of_front bytes end from to (omega arith)
-    ∙ ap (λ (k : ℕ). take k (drop from bytes)) fewer
+second_short : (line : List ℕ) → length (second_of (words line)) ≤ length line
+second_short line =
+    let name = 0 + blanks (drop 0 line) in
+    let after = name + letters (drop name line) in
+    let from = after + blanks (drop after line) in
+    let to = from + letters (drop from line) in
+    let whole = length-take (to - from) (drop from line) in
+    let rest = length-drop from line in
+    let there = ap length (second_there line name after from to refl refl refl refl) in
+    omega (arith, whole, rest, there)
+
+unreturned_short : (line : List ℕ) → length (without_return line) ≤ length line
+unfolding without_return
+unreturned_short [] = omega arith
+unreturned_short (byte ∷ []) = go (eqb byte 13)
+  where
+    go : (t : Bool) → length (cond t [] (byte ∷ [])) ≤ 1
+    go true = omega arith
+    go false = omega arith
+unreturned_short (byte ∷ next ∷ bytes) = let more = unreturned_short (next ∷ bytes) in omega (arith, more)
+
+pub file_within : (line word : List ℕ) → word ≡ file_in line → length word ≤ length line
+unfolding file_in
+file_within line word e =
+    let shorter = second_short (without_return line) in
+    let short = unreturned_short line in
+    let there = ap length e in
+    omega (arith, shorter, short, there)

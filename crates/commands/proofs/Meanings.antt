@@ -9,6 +9,7 @@ use lib.ListN.{length, get_or, take, drop}
 use lib.Seq.{drop-cons}
 use lib.Dec.{eqb}
 use borrow.Author.Tests.{eq-eqb, ne_eqb}
+use Rattle.std.specs.Prelude.{Option}
 use Rattle.laws.specs.Every.{every}
 use Rattle.texts.specs.Text.{text, same}
 use Rattle.words.specs.Words.{words, blanks, letters}
@@ -77,13 +78,13 @@ module _ (line : List ℕ) (start : ℕ) (begins : start ≡ 0 + blanks (drop 0 
       e
       ∙ sym (by_name end ends h other named ∙ ap (λ (t : Bool). chosen false t (part start end line) (words (drop end line))) is)
 
-  pub command_meant : {entry : Entry} {given : Arguments} {meant : Meaning} {reads : Bool} (end : ℕ)
+  pub command_meant : {entry : Option Entry} {given : Arguments} {meant : Meaning} {reads : Bool} (end : ℕ)
       → start < length line → (get_or line start 0 ≡ 35 → ⊥) → end ≡ start + letters (drop start line)
       → reads ≡ same (part start end line) (text "read") → reads ≡ false
       → entry ≡ entry_of (part start end line) → given ≡ heard nothing (words (drop end line))
       → meant ≡ judged entry given.count given.numeric (value_at given) → meant ≡ meaning_of (words line)
   command_meant end h other ends named no_file of-name of_words e =
       e
-      ∙ ap₂ (λ (n : Entry) (a : Arguments). judged n a.count a.numeric (value_at a)) of-name of_words
+      ∙ ap₂ (λ (n : Option Entry) (a : Arguments). judged n a.count a.numeric (value_at a)) of-name of_words
       ∙ collected (entry_of (part start end line)) (words (drop end line)) (of_table (part start end line))
       ∙ sym (by_name end ends h other named ∙ ap (λ (t : Bool). chosen false t (part start end line) (words (drop end line))) no_file)

@@ -1,6 +1,6 @@
 -- The command language, its lines: what a line means, and what is wrong with it, the first mistake first.
 -- Assumes nothing.
-use Rattle.std.specs.Prelude.{ℕ, ◌+◌, Bool, false, cond, not, List, [], ◌∷◌, map, length, get_or, eqb, ltb, leb}
+use Rattle.std.specs.Prelude.{ℕ, ◌+◌, Bool, false, cond, not, Option, Some, None, List, [], ◌∷◌, map, length, get_or, eqb, ltb, leb}
 use Rattle.laws.specs.Every.{every}
 use Rattle.laws.specs.Fills.{tabulate}
 use Rattle.params.specs.declared.Asked.{Asked}
@@ -63,12 +63,12 @@ called Name.Why count value = Command.Why (value 0) (value 1) (value 2)
 called Name.Write count value = Command.Write (lent_bytes count value)
 
 -- The mistakes in their order: an unknown command, a wrong number of arguments, an argument that is no number.
-unfoldable pub judged : Entry → ℕ → Bool → (ℕ → ℕ) → Meaning
-judged entry count numeric value =
-    cond (not entry.known) (Meaning.Wrong Fault.UnknownCommand)
-    (cond (not (takes entry count)) (Meaning.Wrong Fault.WrongCount)
+unfoldable pub judged : Option Entry → ℕ → Bool → (ℕ → ℕ) → Meaning
+judged None count numeric value = Meaning.Wrong Fault.UnknownCommand
+judged (Some entry) count numeric value =
+    cond (not (takes entry count)) (Meaning.Wrong Fault.WrongCount)
     (cond (not numeric) (Meaning.Wrong Fault.NotANumber)
-    (Meaning.Call (called entry.name count value))))
+    (Meaning.Call (called entry.name count value)))
 
 -- `read` takes one argument, "the one argument that is no number": in it every backslash has to begin one of the signs.
 unfoldable pub file_meant : List (List ℕ) → Meaning

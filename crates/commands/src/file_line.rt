@@ -1,19 +1,12 @@
 // A line with a plant file in it: whether its one argument is a file in one word, and where that word stands.
-ghost use Rattle.std.specs.Prelude.{◌-◌, ◌≤◌, ◌≡◌, length, take, drop};
+ghost use Rattle.std.specs.Prelude.{◌≤◌, ◌≡◌, length, drop};
 ghost use Rattle.words.specs.Words.{words};
-ghost use Rattle.commands.specs.Lines.{second_of, file_in, file_meant};
+ghost use Rattle.commands.specs.Lines.{second_of, file_in as ofLines·file_in, file_meant};
 
-use crate::lines::end_of;
+use crate::lines::without_return;
 use crate::{Fault, Meaning};
 use file_word::is_file;
 use words::{word_end, word_start};
-
-// A part of a line.
-#[derive(Clone, Copy)]
-pub struct Part {
-    pub from: usize,
-    pub to: usize,
-}
 
 // What the words after `read` mean.
 #[tactic(auto, using(crate::proofs::FileLine::no_file, crate::proofs::FileLine::two_files, crate::proofs::FileLine::one_file))]
@@ -35,26 +28,22 @@ pub(crate) fn read_file(line: &[u8], after: usize) -> Meaning
     Meaning::Wrong(Fault::NotAFile)
 }
 
-// Where the second word of a line stands.
-#[tactic(auto, using(crate::proofs::FileLine::part_of_front), unfolding(crate::specs::Lines::file_in))]
-pub fn file_in(line: &[u8]) -> Part
-    ensures line_value { take (result.to - result.from) (drop result.from line.now) ≡ file_in line.now }
-    ensures from_le_to { result.from ≤ result.to }
-    ensures to_in_bounds { result.to ≤ length line.now }
+// The second word of a line, which is no longer than the line.
+#[tactic(auto, using(crate::proofs::FileLine::file_within), unfolding(crate::specs::Lines::file_in))]
+pub fn file_in(line: &[u8]) -> &[u8]
+    ensures line_value { result.now ≡ ofLines·file_in line.now }
+    ensures within { length result.now ≤ length line.now }
 {
-    let end = end_of(line);
-    second_word(&line[..end])
+    second_word(without_return(line))
 }
 
 #[tactic(auto, using(crate::proofs::FileLine::second_within, crate::proofs::FileLine::second_there))]
-fn second_word(line: &[u8]) -> Part
-    ensures line_value { take (result.to - result.from) (drop result.from line.now) ≡ second_of (words line.now) }
-    ensures from_le_to { result.from ≤ result.to }
-    ensures to_in_bounds { result.to ≤ length line.now }
+fn second_word(line: &[u8]) -> &[u8]
+    ensures { result.now ≡ second_of (words line.now) }
 {
     let name = word_start(line, 0);
     let after = word_end(line, name);
     let from = word_start(line, after);
     let to = word_end(line, from);
-    Part { from, to }
+    &line[from..to]
 }

@@ -1,8 +1,8 @@
 // A line as a command: what it means, or what is wrong with it, the first mistake first.
-ghost use Rattle.std.specs.Prelude.{◌≤◌, ◌≡◌, take, length};
+ghost use Rattle.std.specs.Prelude.{◌≤◌, ◌≡◌};
 ghost use Rattle.words.specs.Words.{words};
 ghost use Rattle.arguments.specs.Arguments.{value_at};
-ghost use Rattle.commands.specs.Lines.{without_return, set_after, meaning_of, judged, called, lent_bytes, line_means};
+ghost use Rattle.commands.specs.Lines.{without_return as ofLines·without_return, set_after, meaning_of, judged, called, lent_bytes, line_means};
 
 use crate::file_line::read_file;
 use crate::{Command, Edit, Fault, Meaning};
@@ -27,24 +27,14 @@ pub fn read_line(line: &[u8]) -> Meaning
     if LONGEST < line.len() {
         return Meaning::Wrong(Fault::TooLong);
     }
-    let end = end_of(line);
-    read_words(&line[..end])
+    read_words(without_return(line))
 }
 
-// Where a line ends: a carriage return at its end does not belong to it.
-#[tactic(auto, using(crate::proofs::LineEnd::nothing_ends, crate::proofs::LineEnd::return_ends, crate::proofs::LineEnd::other_ends))]
-pub(crate) fn end_of(line: &[u8]) -> usize
-    ensures line_value { take result line.now ≡ without_return line.now }
-    ensures upper_bound { result ≤ length line.now }
+// A carriage return at the end of a line does not belong to it.
+pub(crate) fn without_return(line: &[u8]) -> &[u8]
+    ensures { result.now ≡ ofLines·without_return line.now }
 {
-    let length = line.len();
-    if length == 0 {
-        return 0;
-    }
-    if line[length - 1] == RETURN {
-        return length - 1;
-    }
-    length
+    line.strip_suffix(&[RETURN]).unwrap_or(line)
 }
 
 #[tactic(auto, using(crate::proofs::Meanings::nothing_meant, crate::proofs::Meanings::comment_meant, crate::proofs::Meanings::file_meant_lem, crate::proofs::Meanings::command_meant), unfolding(texts::specs::Text::text, laws::specs::Fills::tabulate))]
@@ -59,29 +49,27 @@ fn read_words(line: &[u8]) -> Meaning
         return Meaning::Silent;
     }
     let end = word_end(line, start);
-    if is_same(&line[start..end], b"read") {
+    let name = &line[start..end];
+    if is_same(name, b"read") {
         return read_file(line, end);
     }
-    let entry = Entry::of(&line[start..end]);
-    let arguments = Arguments::of(line, end);
-    judge(entry, arguments)
+    judge(Entry::of(name), Arguments::of(line, end))
 }
 
 #[tactic(auto, unfolding(crate::specs::Lines::judged))]
-fn judge(entry: Entry, arguments: Arguments) -> Meaning
+fn judge(entry: Option<Entry>, arguments: Arguments) -> Meaning
     ensures { result ≡ judged entry arguments.count arguments.numeric (value_at arguments) }
 {
-    if !entry.known {
+    let Some(entry) = entry else {
         return Meaning::Wrong(Fault::UnknownCommand);
-    }
+    };
     if !entry.takes(arguments.count) {
         return Meaning::Wrong(Fault::WrongCount);
     }
     if !arguments.numeric {
         return Meaning::Wrong(Fault::NotANumber);
     }
-    let name = entry.name;
-    Meaning::Call(call(name, arguments))
+    Meaning::Call(call(entry.name, arguments))
 }
 
 // The call that a name and its arguments make.
@@ -89,10 +77,7 @@ fn judge(entry: Entry, arguments: Arguments) -> Meaning
 fn call(name: Name, given: Arguments) -> Command
     ensures { result ≡ called name given.count (value_at given) }
 {
-    let values = given.values;
-    let a = values[0];
-    let b = values[1];
-    let c = values[2];
+    let [a, b, c, ..] = given.values;
     match name {
         Name::New => Command::New,
         Name::Show => Command::Show,
@@ -134,8 +119,6 @@ fn set_after(given: Arguments, first: usize) -> Asked
         return Asked::default_set();
     }
     let mut row = [0; SET];
-    for k in 0..SET {
-        row[k] = given.values[first + k];
-    }
-    Asked::of(row)
+    row.copy_from_slice(&given.values[first..first + SET]);
+    Asked::from(row)
 }

@@ -8,10 +8,10 @@ use mathlib.Core.Path.{◌≡◌, refl, sym, ◌∙◌, subst}
 use mathlib.Core.Bool.{Bool, true, false, cond, not, ◌&&◌, and-true}
 use lib.Dec.{eqb, ltb}
 use borrow.Author.Tests.{ltb-false, eqb-true}
+use Rattle.std.specs.Prelude.{Option, Some, None}
 use Rattle.laws.proofs.Choices.{cond_has, never_both}
 use Rattle.heights.specs.declared.Direction.{Direction}
 use Rattle.heights.specs.declared.Way.{Way}
-use Rattle.runs.specs.declared.Last.{Last}
 use Rattle.runs.specs.declared.Goal.{Goal}
 use Rattle.runs.specs.declared.Run.{Run}
 use Rattle.runs.specs.Orders.{last_of, is_last, same}
@@ -33,7 +33,7 @@ use Rattle.conduct.specs.Pauses.{opposite, off}
 use Rattle.conduct.proofs.SoundMotions.{flags_kept}
 use Rattle.conduct.proofs.Kept.{heeded_rest}
 
-abbrev pub owed_at : Direction → ℕ → Last → Motion → ℕ
+abbrev pub owed_at : Direction → ℕ → Option Direction → Motion → ℕ
 owed_at d pause last (Motion.Off rest) = cond (is_last d last) rest 0
 owed_at d pause last (Motion.Waits rest run) = cond (is_last d last) rest 0
 owed_at d pause last (Motion.Runs run) = cond (same d run.direction) pause 0
@@ -46,25 +46,20 @@ owed d b = owed_at d b.params.rpt b.last b.motion
 nothing_left : (rest : ℕ) → ltb 0 rest && true ≡ false → rest ≤ 0
 nothing_left rest e = ltb-false 0 rest (sym (and-true (ltb 0 rest)) ∙ e)
 
-start_owed : (d way : Direction) (last : Last) (rest pause : ℕ) → rest ≤ pause → ltb 0 rest && not (is_last way last) ≡ false
+start_owed : (d way : Direction) (last : Option Direction) (rest pause : ℕ) → rest ≤ pause → ltb 0 rest && not (is_last way last) ≡ false
     → cond (is_last d last) rest 0 ≤ cond (same d way) pause 0
-start_owed Direction.Up Direction.Up Last.Either rest pause h e = omega arith
-start_owed Direction.Up Direction.Up Last.Up rest pause h e = h
-start_owed Direction.Up Direction.Up Last.Down rest pause h e = omega arith
-start_owed Direction.Up Direction.Down Last.Either rest pause h e = omega arith
-start_owed Direction.Up Direction.Down Last.Up rest pause h e = nothing_left rest e
-start_owed Direction.Up Direction.Down Last.Down rest pause h e = omega arith
-start_owed Direction.Down Direction.Up Last.Either rest pause h e = omega arith
-start_owed Direction.Down Direction.Up Last.Up rest pause h e = omega arith
-start_owed Direction.Down Direction.Up Last.Down rest pause h e = nothing_left rest e
-start_owed Direction.Down Direction.Down Last.Either rest pause h e = omega arith
-start_owed Direction.Down Direction.Down Last.Up rest pause h e = omega arith
-start_owed Direction.Down Direction.Down Last.Down rest pause h e = h
+start_owed d way None rest pause h e = omega arith
+start_owed Direction.Up Direction.Up (Some Direction.Up) rest pause h e = h
+start_owed Direction.Up Direction.Down (Some Direction.Up) rest pause h e = nothing_left rest e
+start_owed Direction.Up way (Some Direction.Down) rest pause h e = omega arith
+start_owed Direction.Down way (Some Direction.Up) rest pause h e = omega arith
+start_owed Direction.Down Direction.Up (Some Direction.Down) rest pause h e = nothing_left rest e
+start_owed Direction.Down Direction.Down (Some Direction.Down) rest pause h e = h
 
 -- ---- orders and stops: nothing that is owed is forgiven
 
-running_owed : (d way : Direction) (last : Last) (pause : ℕ) → last ≡ last_of way → cond (same d way) pause 0 ≤ cond (is_last d last) pause 0
-running_owed d way last pause own = subst (λ (l : Last). cond (same d way) pause 0 ≤ cond (is_last d l) pause 0) (sym own) (own_way d way)
+running_owed : (d way : Direction) (last : Option Direction) (pause : ℕ) → last ≡ last_of way → cond (same d way) pause 0 ≤ cond (is_last d last) pause 0
+running_owed d way last pause own = subst (λ (l : Option Direction). cond (same d way) pause 0 ≤ cond (is_last d l) pause 0) (sym own) (own_way d way)
   where
     own_way : (d way : Direction) → cond (same d way) pause 0 ≤ cond (is_last d (last_of way)) pause 0
     own_way Direction.Up Direction.Up = le_refl pause

@@ -1,13 +1,12 @@
 -- Who rules a blind and what its duty is: the definitions of the code are those of specs/Ruling, and no other ruler or duty is.
 -- Assumes nothing.
-use Prim.Native.Nat.{ℕ}
-use native.Mathlib.Omega.{arith}
 use mathlib.Core.Path.{◌≡◌, refl, sym, ap, ◌∙◌, subst}
 use mathlib.Core.Bool.{true, false}
 use mathlib.Core.List.{List, [], ◌∷◌}
+use Rattle.std.specs.Prelude.{Option, Some, None}
 use Rattle.laws.proofs.Choices.{cond_has, never_both}
 use Rattle.params.specs.declared.Reaction.{Reaction}
-use Rattle.blind.specs.declared.Forced.{Forced}
+use Rattle.heights.specs.declared.Direction.{Direction}
 use Rattle.blind.specs.declared.Blind.{Blind}
 use Rattle.duties.specs.declared.Ruler.{Ruler}
 use Rattle.duties.specs.declared.Duty.{Duty}
@@ -25,9 +24,9 @@ alarm_counts a = go a.reaction refl
 
     go : (r : Reaction) → a.reaction ≡ r → counts a.on r ≡ true → Counts a
     go Reaction.Ignore q e = never_both true refl (sym e)
-    go Reaction.Up q e = record { on = e; heeded = other q (λ x. let z : ◌≡◌ {A = ℕ} 0 1 = cc in omega arith) }
-    go Reaction.Down q e = record { on = e; heeded = other q (λ x. let z : ◌≡◌ {A = ℕ} 0 1 = cc in omega arith) }
-    go Reaction.Stop q e = record { on = e; heeded = other q (λ x. let z : ◌≡◌ {A = ℕ} 0 1 = cc in omega arith) }
+    go Reaction.Up q e = record { on = e; heeded = other q (λ x. cc) }
+    go Reaction.Down q e = record { on = e; heeded = other q (λ x. cc) }
+    go Reaction.Stop q e = record { on = e; heeded = other q (λ x. cc) }
 
 alarm_silent : (a : Alarm) → counts a.on a.reaction ≡ false → Silent a
 alarm_silent a = go a.reaction refl
@@ -70,11 +69,10 @@ ruler_rules b =
     (λ f. by_frost (alarm_silent (wind_alarm b) w) (alarm_silent (rain_alarm b) r) (alarm_counts (frost_alarm b) f))
     (λ f. below b.flags.forced refl (alarm_silent (wind_alarm b) w) (alarm_silent (rain_alarm b) r) (alarm_silent (frost_alarm b) f))))
   where
-    below : (forced : Forced) → b.flags.forced ≡ forced → Silent (wind_alarm b) → Silent (rain_alarm b) → Silent (frost_alarm b)
+    below : (forced : Option Direction) → b.flags.forced ≡ forced → Silent (wind_alarm b) → Silent (rain_alarm b) → Silent (frost_alarm b)
         → RuledBy b (forced_ruler forced)
-    below Forced.No e w r f = by_nobody w r f e
-    below Forced.Up e w r f = by_forced w r f (λ no. let z : ◌≡◌ {A = ℕ} 0 1 = cc in omega arith)
-    below Forced.Down e w r f = by_forced w r f (λ no. let z : ◌≡◌ {A = ℕ} 0 1 = cc in omega arith)
+    below None e w r f = by_nobody w r f e
+    below (Some d) e w r f = by_forced w r f (λ no. cc)
 
 pub only_ruler : (b : Blind) (ruler : Ruler) → RuledBy b ruler → ruler_of b ≡ ruler
 unfolding ruler_of
@@ -84,10 +82,9 @@ only_ruler b ruler (by_frost w r c) = rw (silent_alarm (wind_alarm b) w, silent_
 only_ruler b ruler (by_forced w r f h) =
     rw (silent_alarm (wind_alarm b) w, silent_alarm (rain_alarm b) r, silent_alarm (frost_alarm b) f) (go b.flags.forced h)
   where
-    go : (forced : Forced) → (forced ≡ Forced.No → ⊥) → forced_ruler forced ≡ Ruler.Forced
-    go Forced.No h = absurd (h refl)
-    go Forced.Up h = refl
-    go Forced.Down h = refl
+    go : (forced : Option Direction) → (forced ≡ None → ⊥) → forced_ruler forced ≡ Ruler.Forced
+    go None h = absurd (h refl)
+    go (Some d) h = refl
 only_ruler b ruler (by_nobody w r f e) =
     rw (silent_alarm (wind_alarm b) w, silent_alarm (rain_alarm b) r, silent_alarm (frost_alarm b) f, e)
 
@@ -114,7 +111,7 @@ duty_rules b = go (ruler_rules b)
     go (by_rain w c) = next w (first_of _ c)
     go (by_frost w r c) = next w (next r (first_of _ c))
     go (by_forced w r f c) = next w (next r (next f none))
-    go (by_nobody w r f e) = next w (next r (next f (subst (λ (forced : Forced). Gives (forced_duty forced) [] Duty.Free) (sym e) none)))
+    go (by_nobody w r f e) = next w (next r (next f (subst (λ (forced : Option Direction). Gives (forced_duty forced) [] Duty.Free) (sym e) none)))
 
 asks_once : {r : Reaction} {d e : Duty} → Asks r d → Asks r e → d ≡ e
 asks_once up up = refl

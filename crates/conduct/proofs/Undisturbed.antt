@@ -8,10 +8,10 @@ use mathlib.Core.Path.{◌≡◌, refl, ap, ◌∙◌}
 use mathlib.Core.Bool.{Bool, true, false, cond}
 use mathlib.Core.List.{List}
 use lib.Dec.{eqb}
+use Rattle.std.specs.Prelude.{Option}
 use Rattle.heights.specs.declared.Direction.{Direction}
 use Rattle.heights.specs.Heights.{end_of}
 use Rattle.runs.specs.declared.Goal.{Goal}
-use Rattle.runs.specs.declared.Last.{Last}
 use Rattle.runs.specs.declared.Run.{Run}
 use Rattle.runs.specs.Orders.{last_of}
 use Rattle.runs.specs.Millisecond.{shorter}
@@ -113,7 +113,7 @@ from_start run b s on = go b.motion on s.motion
     go motion (waits rest) h =
         cut rest run.length (with_motion (Motion.Waits rest run) b)
         ∙ ap (λ (x : Blind). milliseconds run.length x) (wait_over rest run b h.rest_above)
-    go motion runs h = ap (λ (l : Last). milliseconds run.length (with_motion (Motion.Runs run) (with_last l b))) h.own
+    go motion runs h = ap (λ (l : Option Direction). milliseconds run.length (with_motion (Motion.Runs run) (with_last l b))) h.own
 
 run_length : (run : Run) (b : Blind) → Sound b → Engaged run b.motion → 0 < run.length
 run_length run b s on = go b.motion on s.motion

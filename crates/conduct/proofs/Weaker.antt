@@ -7,10 +7,11 @@ use mathlib.Core.Bool.{true, false}
 use mathlib.Core.Logic.{inl}
 use lib.Dec.{eqb}
 use borrow.Author.Tests.{eqb-true}
+use Rattle.std.specs.Prelude.{Option, Some, None}
 use Rattle.laws.proofs.Choices.{cond_has}
+use Rattle.heights.specs.declared.Direction.{Direction}
 use Rattle.kinds.specs.Kinds.{wa, ra, fa, fo}
 use Rattle.params.specs.declared.Reaction.{Reaction}
-use Rattle.blind.specs.declared.Forced.{Forced}
 use Rattle.blind.specs.declared.Blind.{Blind}
 use Rattle.blind.specs.Fields.{with_flags}
 use Rattle.duties.specs.declared.Ruler.{Ruler}
@@ -115,10 +116,10 @@ ruled_duty b h = go (ruler_rules b) h
     asks Reaction.Down c = refl
     asks Reaction.Stop c = refl
 
-    forces : (forced : Forced) → (forced ≡ Forced.No → ⊥) → is_free (forced_duty forced) ≡ false
-    forces Forced.No c = absurd (c refl)
-    forces Forced.Up c = refl
-    forces Forced.Down c = refl
+    forces : (forced : Option Direction) → (forced ≡ None → ⊥) → is_free (forced_duty forced) ≡ false
+    forces None c = absurd (c refl)
+    forces (Some Direction.Up) c = refl
+    forces (Some Direction.Down) c = refl
 
     go : {ruler : Ruler} → RuledBy b ruler → (ruler ≡ Ruler.Nobody → ⊥) → is_free (duty_under ruler b) ≡ false
     go (by_wind c) h = asks b.params.rwa c.heeded

@@ -1,8 +1,7 @@
 -- Who rules, to be read without the code: the alarms in their order, each with its reaction, and the first that counts.
 -- Assumes nothing.
-use Rattle.std.specs.Prelude.{Bool, true, false, List, [], ◌∷◌, ◌≡◌}
+use Rattle.std.specs.Prelude.{Bool, true, false, List, [], ◌∷◌, ◌≡◌, None}
 use Rattle.params.specs.declared.Reaction.{Reaction}
-use Rattle.blind.specs.declared.Forced.{Forced}
 use Rattle.blind.specs.declared.Blind.{Blind}
 use Rattle.duties.specs.declared.Ruler.{Ruler}
 use Rattle.duties.specs.declared.Duty.{Duty}
@@ -36,8 +35,8 @@ pub data RuledBy (b : Blind) : Ruler → Type 0 where
   by_wind : Counts (wind_alarm b) → RuledBy b Ruler.Wind
   by_rain : Silent (wind_alarm b) → Counts (rain_alarm b) → RuledBy b Ruler.Rain
   by_frost : Silent (wind_alarm b) → Silent (rain_alarm b) → Counts (frost_alarm b) → RuledBy b Ruler.Frost
-  by_forced : Silent (wind_alarm b) → Silent (rain_alarm b) → Silent (frost_alarm b) → (b.flags.forced ≡ Forced.No → ⊥) → RuledBy b Ruler.Forced
-  by_nobody : Silent (wind_alarm b) → Silent (rain_alarm b) → Silent (frost_alarm b) → b.flags.forced ≡ Forced.No → RuledBy b Ruler.Nobody
+  by_forced : Silent (wind_alarm b) → Silent (rain_alarm b) → Silent (frost_alarm b) → (b.flags.forced ≡ None → ⊥) → RuledBy b Ruler.Forced
+  by_nobody : Silent (wind_alarm b) → Silent (rain_alarm b) → Silent (frost_alarm b) → b.flags.forced ≡ None → RuledBy b Ruler.Nobody
 
 -- Wind, rain and frost, in this order.
 abbrev pub alarms : Blind → List Alarm

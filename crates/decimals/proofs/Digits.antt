@@ -2,13 +2,13 @@
 -- Assumes nothing.
 use Prim.Native.Nat.{ℕ, zero, suc, ◌/◌, ◌%◌, ◌≤◌, ◌<◌}
 use native.Mathlib.Omega.{arith}
-use mathlib.Core.Path.{◌≡◌, refl, sym, ap, ◌∙◌}
+use mathlib.Core.Path.{◌≡◌, refl, ap, ◌∙◌}
 use mathlib.Core.Bool.{Bool, true, false, cond}
 use mathlib.Core.List.{List, [], ◌∷◌, ◌++◌}
 use lib.Dec.{ltb}
 use borrow.Author.Tests.{lt-ltb, le-ltb, ltb-false}
-use Rattle.texts.specs.Sheet.{Sheet, put, puts}
-use Rattle.texts.proofs.Sheet.{puts_byte}
+use Rattle.texts.specs.Sheet.{Sheet, puts}
+use Rattle.texts.proofs.Sheets.{puts_append}
 use Rattle.decimals.specs.Decimals.{sign, digits, decimal}
 
 -- any bound above the number gives the same digits
@@ -36,14 +36,9 @@ more_digits n h =
 
 -- ---- on a sheet
 
-module _ (n byte : ℕ) (s : Sheet) (last : byte ≡ sign (n % 10)) where
-  pub put_one : n < 10 → put byte s ≡ puts (decimal n) s
-  unfolding puts
-  put_one h = ap (λ (b : ℕ). put b s) last ∙ sym (ap (λ (l : List ℕ). puts l s) (one_digit n h))
+module _ (n : ℕ) (s : Sheet) where
+  pub put_one : n < 10 → puts (decimal n) s ≡ puts (sign (n % 10) ∷ []) s
+  put_one h = ap (λ (l : List ℕ). puts l s) (one_digit n h)
 
-  pub put_more : {t : Sheet} → 10 ≤ n → t ≡ puts (decimal (n / 10)) s → put byte t ≡ puts (decimal n) s
-  put_more {t} h e =
-      ap (put byte) e
-      ∙ ap (λ (b : ℕ). put b (puts (decimal (n / 10)) s)) last
-      ∙ sym (puts_byte (decimal (n / 10)) (sign (n % 10)) s)
-      ∙ sym (ap (λ (l : List ℕ). puts l s) (more_digits n h))
+  pub put_more : 10 ≤ n → puts (decimal n) s ≡ puts (sign (n % 10) ∷ []) (puts (decimal (n / 10)) s)
+  put_more h = ap (λ (l : List ℕ). puts l s) (more_digits n h) ∙ puts_append (decimal (n / 10)) (sign (n % 10) ∷ []) s

@@ -12,7 +12,7 @@ use lib.Dec.{eqb, leb}
 use borrow.Author.Tests.{eq-eqb, ne_eqb, eqb-false, leb-true, not-true}
 use Rattle.laws.specs.Every.{every}
 use Rattle.laws.proofs.Choices.{both, both_left, both_right, below_or}
-use Rattle.decimals.specs.declared.Number.{Number}
+use Rattle.std.specs.Prelude.{Some, None}
 use Rattle.decimals.specs.Decimals.{sign, decimal, is_digit, value_after, value_of, largest, is_empty, is_number, number_of, has_leading_zero, is_plain, plain_of}
 use Rattle.decimals.proofs.Digits.{one_digit, more_digits}
 use Rattle.decimals.proofs.RoundTrip.{no_leading_zero, all_digits, is_number_lem}
@@ -20,17 +20,17 @@ use Rattle.decimals.proofs.RoundTrip.{no_leading_zero, all_digits, is_number_lem
 -- ---- a word is read
 
 module _ (word : List ℕ) where
-  chosen : {t : Bool} → has_leading_zero word ≡ t → cond (is_number word && not t) (Number.Of (value_of word)) Number.Nothing ≡ plain_of word
+  chosen : {t : Bool} → has_leading_zero word ≡ t → cond (is_number word && not t) (Some (value_of word)) None ≡ plain_of word
   unfolding plain_of is_plain
-  chosen e = ap (λ (t : Bool). cond (is_number word && not t) (Number.Of (value_of word)) Number.Nothing) (sym e)
+  chosen e = ap (λ (t : Bool). cond (is_number word && not t) (Some (value_of word)) None) (sym e)
 
   -- as any number, or not at all
   as_number : has_leading_zero word ≡ false → number_of word ≡ plain_of word
   unfolding number_of
-  as_number e = ap (λ (t : Bool). cond t (Number.Of (value_of word)) Number.Nothing) (sym (and-true (is_number word))) ∙ chosen e
+  as_number e = ap (λ (t : Bool). cond t (Some (value_of word)) None) (sym (and-true (is_number word))) ∙ chosen e
 
-  as_nothing : has_leading_zero word ≡ true → Number.Nothing ≡ plain_of word
-  as_nothing e = ap (λ (t : Bool). cond t (Number.Of (value_of word)) Number.Nothing) (sym (and-false (is_number word))) ∙ chosen e
+  as_nothing : has_leading_zero word ≡ true → None ≡ plain_of word
+  as_nothing e = ap (λ (t : Bool). cond t (Some (value_of word)) None) (sym (and-false (is_number word))) ∙ chosen e
 
 first_byte : (word : List ℕ) → 2 ≤ length word → has_leading_zero word ≡ eqb (get_or word 0 0) (sign 0)
 first_byte [] h = absurd (omega arith)
@@ -42,7 +42,7 @@ short_plain [] h = as_number [] refl
 short_plain (byte ∷ []) h = as_number (byte ∷ []) refl
 short_plain (byte ∷ next ∷ bytes) h = absurd (omega arith)
 
-pub zero_first : (word : List ℕ) → 2 ≤ length word → get_or word 0 0 ≡ sign 0 → Number.Nothing ≡ plain_of word
+pub zero_first : (word : List ℕ) → 2 ≤ length word → get_or word 0 0 ≡ sign 0 → None ≡ plain_of word
 zero_first word h e = as_nothing word (first_byte word h ∙ eq-eqb _ _ e)
 
 pub other_first : (word : List ℕ) → 2 ≤ length word → (get_or word 0 0 ≡ sign 0 → ⊥) → number_of word ≡ plain_of word

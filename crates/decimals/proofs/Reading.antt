@@ -11,8 +11,8 @@ use lib.Seq.{drop-cons}
 use lib.Dec.{leb}
 use borrow.Author.Tests.{lt-leb, le-leb, leb-false, leb-true}
 use Rattle.laws.specs.Every.{every}
-use Rattle.decimals.specs.declared.Number.{Number}
-use Rattle.decimals.specs.Decimals.{sign, is_digit, value_after, largest, is_number, number_after, number_of}
+use Rattle.std.specs.Prelude.{Option, Some, None}
+use Rattle.decimals.specs.Decimals.{is_digit, value_after, largest, is_number, number_after, number_of}
 
 -- a value never falls
 pub grows : (value : ℕ) (bytes : List ℕ) → value ≤ value_after value bytes
@@ -24,28 +24,24 @@ grows value (byte ∷ bytes) = let more = grows (value * 10 + (byte - 48)) bytes
 
 module _ (value byte : ℕ) where
   -- no digit, past 64 bits, or read
-  pub below_digits : byte < sign 0 → Number.Nothing ≡ number_after value (byte ∷ [])
+  pub no_digit : is_digit byte ≡ false → number_after value (byte ∷ []) ≡ None
   unfolding number_after every value_after
-  below_digits h = simp (lt-leb (sign 0) byte h)
+  no_digit h = simp h
 
-  pub above_digits : sign 9 < byte → Number.Nothing ≡ number_after value (byte ∷ [])
-  unfolding number_after every value_after
-  above_digits h = simp (le-leb (sign 0) byte (omega arith), lt-leb byte (sign 9) h)
-
-  module _ (low : sign 0 ≤ byte) (high : byte ≤ sign 9) where
-    pub too_large : largest < value * 10 + (byte - 48) → Number.Nothing ≡ number_after value (byte ∷ [])
+  module _ (digit : is_digit byte ≡ true) where
+    pub too_large : largest < value * 10 + (byte - 48) → number_after value (byte ∷ []) ≡ None
     unfolding number_after every value_after
-    too_large h = simp (le-leb (sign 0) byte low, le-leb byte (sign 9) high, lt-leb _ _ h)
+    too_large h = simp (digit, lt-leb _ _ h)
 
-    pub still_fits : value * 10 + (byte - 48) ≤ largest → Number.Of (value * 10 + (byte - 48)) ≡ number_after value (byte ∷ [])
+    pub still_fits : value * 10 + (byte - 48) ≤ largest → number_after value (byte ∷ []) ≡ Some (value * 10 + (byte - 48))
     unfolding number_after every value_after
-    still_fits h = simp (le-leb (sign 0) byte low, le-leb byte (sign 9) high, le-leb _ _ h)
+    still_fits h = simp (digit, le-leb _ _ h)
 
 -- ---- what comes after it
 
 module _ (value byte : ℕ) (bytes : List ℕ) where
   -- what is refused stays refused
-  stays_refused : number_after value (byte ∷ []) ≡ Number.Nothing → number_after value (byte ∷ bytes) ≡ Number.Nothing
+  stays_refused : number_after value (byte ∷ []) ≡ None → number_after value (byte ∷ bytes) ≡ None
   unfolding number_after every value_after
   stays_refused =
       let next : ℕ = value * 10 + (byte - 48) in
@@ -54,32 +50,32 @@ module _ (value byte : ℕ) (bytes : List ℕ) where
       (λ e. let past : largest < next = leb-false next largest e in lt-leb (value_after next bytes) largest (omega arith))
     where
       go : (digit rest fits fit : Bool) (v w : ℕ) → (fits ≡ false → fit ≡ false)
-          → cond ((digit && true) && fits) (Number.Of v) Number.Nothing ≡ Number.Nothing
-          → cond ((digit && rest) && fit) (Number.Of w) Number.Nothing ≡ Number.Nothing
+          → cond ((digit && true) && fits) (Some v) None ≡ None
+          → cond ((digit && rest) && fit) (Some w) None ≡ None
       go false rest fits fit v w h e = refl
       go true false fits fit v w h e = refl
-      go true true false fit v w h e = ap (λ (t : Bool). cond t (Number.Of w) Number.Nothing) (h refl)
+      go true true false fit v w h e = ap (λ (t : Bool). cond t (Some w) None) (h refl)
       go true true true fit v w h e = absurd (let never : ◌≡◌ {A = ℕ} 0 1 = cc in omega arith)
 
   -- the rest is read after the value so far
-  goes_on_lem : {next : ℕ} → number_after value (byte ∷ []) ≡ Number.Of next → number_after value (byte ∷ bytes) ≡ number_after next bytes
+  goes_on_lem : {next : ℕ} → number_after value (byte ∷ []) ≡ Some next → number_after value (byte ∷ bytes) ≡ number_after next bytes
   unfolding number_after every value_after
   goes_on_lem {next} = let with_byte : ℕ = value * 10 + (byte - 48) in go (is_digit byte) (leb with_byte largest) with_byte
     where
       go : (digit fits : Bool) (v : ℕ)
-          → cond ((digit && true) && fits) (Number.Of v) Number.Nothing ≡ Number.Of next
-          → cond ((digit && every is_digit bytes) && leb (value_after v bytes) largest) (Number.Of (value_after v bytes)) Number.Nothing ≡ number_after next bytes
+          → cond ((digit && true) && fits) (Some v) None ≡ Some next
+          → cond ((digit && every is_digit bytes) && leb (value_after v bytes) largest) (Some (value_after v bytes)) None ≡ number_after next bytes
       go true true v e = let same : v ≡ next = cc in ap (λ (n : ℕ). number_after n bytes) same
       go true false v e = absurd (let never : ◌≡◌ {A = ℕ} 0 1 = cc in omega arith)
       go false fits v e = absurd (let never : ◌≡◌ {A = ℕ} 0 1 = cc in omega arith)
 
 -- a value that was read has 64 bits
-pub has_64_bits : (value : ℕ) (bytes : List ℕ) {next : ℕ} → number_after value bytes ≡ Number.Of next → next ≤ largest
+pub has_64_bits : (value : ℕ) (bytes : List ℕ) {next : ℕ} → number_after value bytes ≡ Some next → next ≤ largest
 unfolding number_after
 has_64_bits value bytes {next} = go (every is_digit bytes) (leb (value_after value bytes) largest) refl
   where
     go : (digits fits : Bool) → leb (value_after value bytes) largest ≡ fits
-        → cond (digits && fits) (Number.Of (value_after value bytes)) Number.Nothing ≡ Number.Of next → next ≤ largest
+        → cond (digits && fits) (Some (value_after value bytes)) None ≡ Some next → next ≤ largest
     go true true f e =
         let same : value_after value bytes ≡ next = cc in
         let least : value_after value bytes ≤ largest = leb-true (value_after value bytes) largest f in
@@ -89,27 +85,27 @@ has_64_bits value bytes {next} = go (every is_digit bytes) (leb (value_after val
 
 -- ---- a walk: what is left of the word says what the whole word does
 
-module _ (word : List ℕ) (i value : ℕ) {whole : Number} where
+module _ (word : List ℕ) (i value : ℕ) {whole : Option ℕ} where
   step : i < length word → number_after value (drop i word) ≡ whole → number_after value (get_or word i 0 ∷ drop (suc i) word) ≡ whole
   step h e = ap (number_after value) (sym (drop-cons word i 0 h)) ∙ e
 
-  pub walk_more : {next : ℕ} → i < length word → number_after value (get_or word i 0 ∷ []) ≡ Number.Of next
+  pub walk_more : {next : ℕ} → i < length word → number_after value (get_or word i 0 ∷ []) ≡ Some next
       → number_after value (drop i word) ≡ whole → number_after next (drop (i + 1) word) ≡ whole
   walk_more {next} h one e =
       ap (λ (k : ℕ). number_after next (drop k word)) (add-one i) ∙ sym (goes_on_lem value (get_or word i 0) (drop (suc i) word) one) ∙ step h e
 
-  pub walk_refused : i < length word → number_after value (get_or word i 0 ∷ []) ≡ Number.Nothing
-      → number_after value (drop i word) ≡ whole → Number.Nothing ≡ whole
+  pub walk_refused : i < length word → number_after value (get_or word i 0 ∷ []) ≡ None
+      → number_after value (drop i word) ≡ whole → None ≡ whole
   walk_refused h one e = sym (stays_refused value (get_or word i 0) (drop (suc i) word) one) ∙ step h e
 
-  pub walk_end : length word ≤ i → value ≤ largest → number_after value (drop i word) ≡ whole → Number.Of value ≡ whole
+  pub walk_end : length word ≤ i → value ≤ largest → number_after value (drop i word) ≡ whole → Some value ≡ whole
   unfolding number_after every value_after
   walk_end h fits e =
-      sym (ap (λ (t : Bool). cond t (Number.Of value) Number.Nothing) (le-leb value largest fits)) ∙ sym (ap (number_after value) (drop_of_length-le word h)) ∙ e
+      sym (ap (λ (t : Bool). cond t (Some value) None) (le-leb value largest fits)) ∙ sym (ap (number_after value) (drop_of_length-le word h)) ∙ e
 
 -- ---- a word is one byte or more
 
-pub no_word : (word : List ℕ) → length word ≡ 0 → Number.Nothing ≡ number_of word
+pub no_word : (word : List ℕ) → length word ≡ 0 → None ≡ number_of word
 unfolding number_of is_number
 no_word [] e = refl
 no_word (byte ∷ bytes) e = absurd (omega (arith, e))

@@ -11,7 +11,7 @@ use lib.Dec.{ltb, leb}
 use borrow.Author.Tests.{ltb-true, ltb-false, le-leb}
 use Rattle.laws.specs.Every.{every}
 use Rattle.laws.proofs.Choices.{both, both_left, both_right}
-use Rattle.decimals.specs.declared.Number.{Number}
+use Rattle.std.specs.Prelude.{Some, None}
 use Rattle.decimals.specs.Decimals.{sign, decimal, is_digit, value_after, value_of, largest, is_empty, is_number, number_of}
 use Rattle.decimals.proofs.Digits.{one_digit, more_digits}
 
@@ -95,10 +95,10 @@ is_number_lem n h =
     both (not (is_empty (decimal n))) (digits && fits) (filled (decimal n) (has_digits n))
     (both digits fits (all_digits n) (le-leb (value_of (decimal n)) largest (omega (arith, has_value n))))
 
-pub round_trip : (n : ℕ) → n ≤ largest → number_of (decimal n) ≡ Number.Of n
+pub round_trip : (n : ℕ) → n ≤ largest → number_of (decimal n) ≡ Some n
 unfolding number_of
 round_trip n h =
-    ap (λ (t : Bool). cond t (Number.Of (value_of (decimal n))) Number.Nothing) (is_number_lem n h) ∙ ap Number.Of (has_value n)
+    ap (λ (t : Bool). cond t (Some (value_of (decimal n))) None) (is_number_lem n h) ∙ ap Some (has_value n)
 
 -- "Leading zeros are allowed and carry nothing."
 pub leading_zero : (word : List ℕ) → 0 < length word → number_of (sign 0 ∷ word) ≡ number_of word

@@ -1,8 +1,7 @@
 -- Numbers as text: "numbers are decimal, up to 64 bits".
 -- Assumes nothing.
-use Rattle.std.specs.Prelude.{ℕ, zero, suc, ◌+◌, ◌-◌, ◌*◌, ◌/◌, ◌%◌, Bool, true, false, cond, not, ◌&&◌, List, [], ◌∷◌, ◌++◌, eqb, ltb, leb}
+use Rattle.std.specs.Prelude.{ℕ, zero, suc, ◌+◌, ◌-◌, ◌*◌, ◌/◌, ◌%◌, Bool, true, false, cond, not, ◌&&◌, Option, Some, None, List, [], ◌∷◌, ◌++◌, eqb, ltb, leb}
 use Rattle.laws.specs.Every.{every}
-use Rattle.decimals.specs.declared.Number.{Number}
 
 -- The signs 0 to 9 are the bytes 48 to 57.
 abbrev pub sign : ℕ → ℕ
@@ -37,20 +36,20 @@ is_empty [] = true
 is_empty (byte ∷ bytes) = false
 
 -- The number that the digits of a row make after a value, as long as it has 64 bits.
-unfoldable pub number_after : ℕ → List ℕ → Number
+unfoldable pub number_after : ℕ → List ℕ → Option ℕ
 number_after value bytes =
-    cond (every is_digit bytes && leb (value_after value bytes) largest) (Number.Of (value_after value bytes)) Number.Nothing
+    cond (every is_digit bytes && leb (value_after value bytes) largest) (Some (value_after value bytes)) None
 
 -- "With a value of at most 18446744073709551615 (64 bits). Leading zeros are allowed and carry nothing."
 unfoldable pub is_number : List ℕ → Bool
 is_number word = not (is_empty word) && (every is_digit word && leb (value_of word) largest)
 
 -- What a word says, read as a number, if it passes a test.
-abbrev pub number_if : (List ℕ → Bool) → List ℕ → Number
-number_if passes word = cond (passes word) (Number.Of (value_of word)) Number.Nothing
+abbrev pub number_if : (List ℕ → Bool) → List ℕ → Option ℕ
+number_if passes word = cond (passes word) (Some (value_of word)) None
 
 -- What a word says, read as a number.
-unfoldable pub number_of : List ℕ → Number
+unfoldable pub number_of : List ℕ → Option ℕ
 number_of = number_if is_number
 
 -- A 0 with more after it.
@@ -64,5 +63,5 @@ unfoldable pub is_plain : List ℕ → Bool
 is_plain word = is_number word && not (has_leading_zero word)
 
 -- What a word says, read as such a number.
-unfoldable pub plain_of : List ℕ → Number
+unfoldable pub plain_of : List ℕ → Option ℕ
 plain_of = number_if is_plain

@@ -11,7 +11,8 @@ use Rattle.answers.proofs.Rules.{refused, leaves_has}
 use Rattle.blind.specs.declared.Blind.{Blind}
 use Rattle.link.specs.declared.Link.{Link}
 use Rattle.table.specs.Links.{links_to, links_of}
-use Rattle.panel.specs.Panel.{Seat, Model, present_in, is_there}
+use Rattle.panel.specs.declared.Seat.{Seat}
+use Rattle.panel.specs.Panel.{Model, present_in, is_there}
 use Rattle.panel.specs.Sound.{Fine}
 use Rattle.panel.specs.Calls.{Cells}
 use Rattle.telegrams.specs.Locality.{reached}

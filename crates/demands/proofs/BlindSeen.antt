@@ -13,7 +13,8 @@ use Rattle.blind.specs.declared.Blind.{Blind}
 use Rattle.milliseconds.specs.Milliseconds.{milliseconds}
 use Rattle.outputs.specs.Reports.{report}
 use Rattle.outputs.specs.Reports.{no_report}
-use Rattle.panel.specs.Panel.{Seat, Model}
+use Rattle.panel.specs.declared.Seat.{Seat}
+use Rattle.panel.specs.Panel.{Model}
 use Rattle.panel.specs.Sound.{Sound}
 use Rattle.panel.specs.Calls.{Cells, CallRule}
 use Rattle.panel.specs.Reports.{SeenAt}

@@ -12,12 +12,12 @@ use Rattle.demands.specs.Chain.{Called, answered, counted, Chain, end, next, all
 -- one call gives what the turn gives
 one_given : {panel then : Panel} {turn : Turn} {got : Result Model Cells} → Called panel turn got then → got ≡ gives turn (model_of panel)
 one_given (answered promise) = promise.outcome
-one_given (counted promise) = promise
+one_given (counted r promise) = promise
 
 -- and the caller has the panel that it leaves
 one_left : {panel then : Panel} {turn : Turn} {got : Result Model Cells} → Called panel turn got then → model_of then ≡ got.leaves
 one_left (answered promise) = refl
-one_left (counted promise) = refl
+one_left (counted r promise) = refl
 
 -- The panel at the end of a chain is the one after the run, and what the caller got each time is what the run gives.
 pub chain_is_run : {panel last : Panel} {run : Run} {all : List (Result Model Cells)} → Chain panel run all last

@@ -13,7 +13,8 @@ use Rattle.params.specs.Numbers.{params_of}
 use Rattle.blind.specs.declared.Blind.{Blind}
 use Rattle.milliseconds.specs.Milliseconds.{milliseconds}
 use Rattle.rules.specs.Edits.{rewritten}
-use Rattle.panel.specs.Panel.{Seat, Model}
+use Rattle.panel.specs.declared.Seat.{Seat}
+use Rattle.panel.specs.Panel.{Model}
 use Rattle.panel.specs.Sound.{Fine}
 use Rattle.panel.specs.Calls.{Cells}
 use Rattle.telegrams.specs.Locality.{reached, heard_by}

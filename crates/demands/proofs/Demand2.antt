@@ -26,7 +26,8 @@ use Rattle.rules.specs.Edits.{rewritten}
 use Rattle.conduct.proofs.SoundCourses.{heeded_sound, input_of_class}
 use Rattle.conduct.proofs.Owed.{owed, owed_at, heeded_keeps}
 use Rattle.link.specs.declared.Link.{Link}
-use Rattle.panel.specs.Panel.{Seat, Model, each_seat, on_blind}
+use Rattle.panel.specs.declared.Seat.{Seat}
+use Rattle.panel.specs.Panel.{Model, each_seat, on_blind}
 use Rattle.panel.specs.Sound.{Sound, Fine}
 use Rattle.panel.specs.Calls.{Cells}
 use Rattle.time_steps.specs.TimeSteps.{after_step}

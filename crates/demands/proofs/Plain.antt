@@ -7,6 +7,9 @@ use mathlib.Core.List.{List}
 use lib.ListN.{length, get_or}
 use lib.Dec.{eqb}
 use borrow.Author.Tests.{eq-eqb}
+use Rattle.std.specs.Prelude as prelude
+use Rattle.answers.specs.declared.Refusal.{Refusal}
+use Rattle.answers.specs.Numbers.{answer_of}
 use Rattle.answers.specs.Answers.{refusal}
 use Rattle.answers.specs.Rules.{Result, carried}
 use Rattle.answers.specs.Runs.{Allows, Ran, SameRun}
@@ -25,7 +28,7 @@ use Rattle.telegrams.specs.Telegrams.{telegram_rule}
 use Rattle.time_steps.specs.TimeSteps.{step_rule}
 use Rattle.readings.specs.Strip.{strip_rule}
 use Rattle.readings.specs.declared.inventory.Counted.{Counted}
-use Rattle.readings.specs.Inventory.{inventory_rule, counted_of}
+use Rattle.readings.specs.Inventory.{inventory_rule, blinds_of, lowest_of, counted_of}
 use Rattle.installs.specs.Installs.{install_rule}
 use Rattle.removals.specs.Removals.{remove_rule}
 use Rattle.writes.specs.Writes.{write_rule}
@@ -43,9 +46,9 @@ pub same_calls : (run : Run) (p : Panel) (q : PlainPanel) → Words p → Links 
 same_calls run = same_run_lem (by_rules run)
 
 -- what the inventory promises is such an outcome: it hands no panel back, so its caller still has his own
-pub counted_allows : (panel : Panel) (r : Counted) → Words panel → counted_of r (model_of panel) ≡ carried inventory_rule (model_of panel) no_cells
+pub counted_allows : (panel : Panel) (r : prelude.Result Counted Refusal) → Words panel → counted_of r (model_of panel) ≡ carried inventory_rule (model_of panel) no_cells
     → Allows model_of Words (record { rule = inventory_rule; cells = no_cells }) panel
-    (record { answer = r.answer; count = r.blinds; second = r.lowest; leaves = panel; cells = no_cells })
+    (record { answer = answer_of r; count = blinds_of r; second = lowest_of r; leaves = panel; cells = no_cells })
 counted_allows panel r whole promise = record { outcome = promise; whole = whole }
 
 -- ---- unused words

@@ -6,7 +6,8 @@ use mathlib.Core.Bool.{Bool, true, false}
 use mathlib.Core.Option.{Option, none, some, map, some-injective}
 use Rattle.laws.proofs.Choices.{never_both}
 use Rattle.blind.specs.declared.Blind.{Blind}
-use Rattle.panel.specs.Panel.{Seat, Model, reseated}
+use Rattle.panel.specs.declared.Seat.{Seat}
+use Rattle.panel.specs.Panel.{Model, reseated}
 use Rattle.panel.proofs.Seats.{reseated_at}
 use Rattle.seats.specs.Untouched.{blind_at}
 

@@ -8,7 +8,8 @@ use Rattle.tags.specs.Tags.{places}
 use Rattle.runs.specs.declared.Run as ofRuns
 use Rattle.blind.specs.declared.Motion.{Motion}
 use Rattle.blind.specs.declared.Blind.{Blind}
-use Rattle.panel.specs.Panel.{Seat, Model}
+use Rattle.panel.specs.declared.Seat.{Seat}
+use Rattle.panel.specs.Panel.{Model}
 use Rattle.panel.specs.Sound.{Fine}
 use Rattle.panel.specs.Calls.{Cells}
 use Rattle.seats.specs.Untouched.{blind_at}

@@ -1,10 +1,10 @@
 -- Scripts of calls on the panel, and what is looked at after them, for the cases of document 01. Assumes nothing.
-use Rattle.std.specs.Prelude.{ℕ, ◌-◌, Bool, true, false, ◌&&◌, List, [], ◌∷◌, get_or, eqb}
+use Rattle.std.specs.Prelude.{ℕ, ◌-◌, Bool, true, false, ◌&&◌, List, [], ◌∷◌, get_or, eqb, Some, None}
+use Rattle.std.specs.Prelude as prelude
 use Rattle.std.proofs.Math.Option.{Option, none, some}
 use Rattle.laws.specs.Fills.{tabulate}
 use Rattle.tags.specs.Tags.{places}
 use Rattle.heights.specs.declared.Direction.{Direction}
-use Rattle.runs.specs.declared.Last.{Last}
 use Rattle.runs.specs.Orders.{same}
 use Rattle.blind.specs.declared.Motion.{Motion}
 use Rattle.blind.specs.declared.Blind.{Blind}
@@ -13,7 +13,8 @@ use Rattle.duties.specs.declared.Duty.{Duty}
 use Rattle.duties.specs.Rulers.{duty_of, same_duty}
 use Rattle.answers.specs.Rules.{Result}
 use Rattle.panel.specs.Calls.{Cells, row}
-use Rattle.panel.specs.Panel.{Seat, Model}
+use Rattle.panel.specs.declared.Seat.{Seat}
+use Rattle.panel.specs.Panel.{Model}
 use Rattle.outputs.specs.Reports.{no_report}
 use Rattle.seats.specs.Untouched.{blind_at}
 use Rattle.demands.specs.Calls.{Call, time_step, does}
@@ -120,10 +121,10 @@ rest_is n (Motion.Waits rest run) = false
 rest_is n (Motion.Runs run) = false
 
 -- "last direction up, rest time 0"
-abbrev pub went_up : Last → Bool
-went_up Last.Either = false
-went_up Last.Up = true
-went_up Last.Down = false
+abbrev pub went_up : prelude.Option Direction → Bool
+went_up None = false
+went_up (Some Direction.Up) = true
+went_up (Some Direction.Down) = false
 
 abbrev pub rested_up : Seen → Bool
 rested_up r = on_blind (λ b. went_up b.last && rest_is 0 b.motion) (blind_at 5 r.leaves)

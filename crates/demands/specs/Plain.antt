@@ -8,7 +8,7 @@ use Rattle.terminals.specs.Strip.{terminals}
 use Rattle.panel.specs.Panel.{Model}
 use Rattle.panel.specs.Calls.{Cells}
 use Rattle.demands.specs.Calls.{Call, telegram, time_step, strip, install, remove_blind, write_params, add_link, remove_link, splice_in, splice_out, inventory, rule_of}
-use Rattle.demands.specs.Runs.{Turn, Run}
+use Rattle.demands.specs.Runs.{Run}
 
 -- The calls of a run, by their rules.
 abbrev pub by_rules : Run → List (runs.Turn Model Cells)

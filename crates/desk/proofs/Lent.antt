@@ -5,7 +5,7 @@ use native.Mathlib.Omega.{arith}
 use mathlib.Core.Path.{◌≡◌, refl, sym, ap, ◌∙◌}
 use mathlib.Core.Bool.{Bool, true, false}
 use mathlib.Core.List.{List, ◌∷◌, ◌++◌}
-use lib.ListN.{length, take, drop, replicate, length-append}
+use lib.ListN.{length, take, drop, replicate}
 use lib.Seq.{length-take-le, take_all, take_at}
 use lib.Dec.{leb}
 use borrow.Author.Tests.{leb-true, leb-false}
@@ -37,9 +37,3 @@ module _ (buffer part : List ℕ) (n : ℕ) (within : n ≤ length buffer) (kept
 
   pub part_back : take n (part ++ drop n buffer) ≡ part
   part_back = take_at part (drop n buffer) n size
-
-  pub still_within : n ≤ length (part ++ drop n buffer)
-  still_within = omega (arith, size, length-append part (drop n buffer))
-
-  pub part_size : n ≡ length (take n (part ++ drop n buffer))
-  part_size = sym (ap length part_back ∙ size)

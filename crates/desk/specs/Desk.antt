@@ -1,6 +1,6 @@
 -- A command carried out: what it does to the panel, and the answer that it writes.
 -- Assumes nothing.
-use Rattle.std.specs.Prelude.{ℕ, min, cond, List, [], ◌∷◌, take, replicate, eqb, leb}
+use Rattle.std.specs.Prelude.{ℕ, ◌≡◌, min, cond, List, [], ◌∷◌, take, replicate, eqb, leb}
 use Rattle.answers.specs.Rules.{Result, carried}
 use Rattle.tags.specs.Tags.{places}
 use Rattle.params.specs.Numbers.{row_of}
@@ -21,7 +21,10 @@ use Rattle.splices.specs.Splices.{splice_in_rule, splice_out_rule}
 use Rattle.why.specs.Why.{explained}
 use Rattle.display.specs.Display.{percent_of}
 use Rattle.texts.specs.Text.{text}
-use Rattle.texts.specs.Sheet.{Sheet, sheet, puts, joined}
+use Rattle.panel.specs.declared.Panel.{Panel}
+use Rattle.texts.specs.declared.Sheet.{Sheet as Page}
+use Rattle.texts.specs.Lent.{on}
+use Rattle.texts.specs.Sheet.{Sheet, puts, joined}
 use Rattle.decimals.specs.Decimals.{decimal}
 use Rattle.file_word.specs.FileWord.{packed}
 use Rattle.fields.specs.Room.{room}
@@ -32,16 +35,20 @@ use Rattle.shows.specs.Numbers.{spaced, counted}
 use Rattle.shows.specs.Cells.{counted_with}
 use Rattle.panel_text.specs.PanelText.{panel_text}
 use Rattle.reason_text.specs.ReasonText.{reason_text}
-use Rattle.desk.specs.declared.After.{After}
 
 -- A panel, and the sheet that the answers are written on.
 pub record Desk : Type 0 where
   pub panel : Model
   pub page : Sheet
 
--- What a result says: the panel, and the sheet as far as it is written.
-abbrev pub desk_of : After → List ℕ → Desk
-desk_of r bytes = record { panel = model_of r.panel; page = sheet bytes r.at }
+-- What a panel and a sheet of the program say.
+abbrev pub desk_of : Panel → Page → Desk
+desk_of p page = record { panel = model_of p; page = on page }
+
+-- What a function promises of the panel that it hands back and of the sheet that it is handed: it is still the same lent row,
+-- which its name among all lent rows says, and the two are what is to be left on the desk.
+abbrev pub Leaves : Desk → Panel → Page → Page → Type 0
+Leaves desk p old new = (new.bytes.ghost_name ≡ old.bytes.ghost_name) × (desk_of p new ≡ desk)
 
 -- The panel is another one, and a text more is written.
 abbrev pub wrote : Model → List ℕ → Sheet → Desk
@@ -56,8 +63,11 @@ abbrev pub celled : ℕ → Result Model Cells → Sheet → Desk
 celled idle r = wrote r.leaves (counted_with idle r.answer r.count r.cells.lent)
 
 -- "NUMBER BLINDS LOWEST" for the inventory.
+abbrev pub inventory_text : ℕ → ℕ → ℕ → List ℕ
+inventory_text number blinds lowest = joined (decimal number ∷ spaced blinds ∷ spaced lowest ∷ [])
+
 abbrev pub inventoried : Result Model Cells → Sheet → Desk
-inventoried r = wrote r.leaves (joined (decimal r.answer ∷ spaced r.count ∷ spaced r.second ∷ []))
+inventoried r = wrote r.leaves (inventory_text r.answer r.count r.second)
 
 -- The rule of an edit.
 abbrev pub edit_rule : Edit → CallRule

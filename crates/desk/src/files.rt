@@ -1,16 +1,15 @@
 // The answer to `write`: the numbers, and the file in one word.
 ghost use Rattle.std.specs.Prelude.{min, ◌≡◌, replicate};
+ghost use Rattle.answers.specs.Numbers.{answer_of, count_of};
 ghost use Rattle.fields.specs.Room.{room};
-ghost use Rattle.texts.specs.Sheet.{sheet, puts};
+ghost use Rattle.texts.specs.Lent.{Puts};
 ghost use Rattle.desk.specs.Desk.{file_text};
 
-use answers::DONE;
+use answers::Refusal;
 use fields::ROOM;
 use file_word::put_packed;
-use plant_writer::Written;
-use rows::least;
 use shows::numbers::put_counted;
-use texts::put_text;
+use texts::Sheet;
 
 // The buffer, in a function of its own so that a proof of its caller need not look at each byte.
 pub(crate) fn clear() -> [u8; ROOM]
@@ -23,21 +22,18 @@ pub(crate) fn clear() -> [u8; ROOM]
 pub(crate) fn lent_of(asked: u64) -> usize
     ensures { result ≡ min asked room }
 {
-    if asked < ROOM as u64 {
-        return asked as usize;
-    }
-    ROOM
+    asked.min(ROOM as u64) as usize
 }
 
 // Where the call was refused, a dash stands for the file.
-pub(crate) fn put_file(out: &mut [u8], at: usize, done: Written, lent: &[u8]) -> usize
-    ensures { sheet out.new result ≡ puts (file_text done.answer done.length lent.now) (sheet out.old at) }
+#[tactic(auto, using(texts::proofs::Sheets::pieces, crate::proofs::Lent::take_least), unfolding(crate::specs::Desk::file_text, texts::specs::Text::text, laws::specs::Fills::tabulate))]
+pub(crate) fn put_file(sheet: &mut Sheet<'_>, written: Result<usize, Refusal>, lent: &[u8])
+    ensures { Puts (file_text (answer_of written) (count_of written) lent.now) sheet.old sheet.new }
 {
-    let told = put_counted(out, at, done.answer, done.length as u64);
-    let space = put_text(out, told, b" ");
-    if done.answer != DONE {
-        return put_text(out, space, b"-");
+    put_counted(sheet, written.map(|length| length as u64));
+    sheet.put(b' ');
+    match written {
+        Ok(length) => put_packed(sheet, &lent[..length.min(lent.len())]),
+        Err(_) => sheet.put(b'-'),
     }
-    let length = least(done.length, lent.len());
-    put_packed(out, space, &lent[..length])
 }

@@ -8,9 +8,5 @@ pub(crate) const OFF: u8 = 0;
 pub(crate) fn widened(motors: [u8; STRIP]) -> [u16; STRIP]
     ensures { result ≡ motors }
 {
-    let mut cells = [0u16; STRIP];
-    for terminal in 0..STRIP {
-        cells[terminal] = motors[terminal] as u16;
-    }
-    cells
+    motors.map(|motor| u16::from(motor))
 }

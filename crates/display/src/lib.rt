@@ -26,5 +26,5 @@ const PERCENT: [u8; ENTRIES] = [
 pub fn percent(raw: u8) -> u8
     ensures { result ≡ percent_of raw }
 {
-    PERCENT[raw as usize]
+    PERCENT[usize::from(raw)]
 }

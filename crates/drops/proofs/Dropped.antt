@@ -6,10 +6,11 @@ use native.Mathlib.Omega.{arith}
 use mathlib.Core.Path.{◌≡◌, refl, sym, ap, ap₂, ◌∙◌}
 use mathlib.Core.Bool.{Bool, true, false, cond}
 use mathlib.Core.List.{List, [], ◌∷◌, ◌++◌, map, append-nil}
-use lib.ListN.{length, get_or, take, drop, set, length-set, replicate, length-replicate, drop_of_length-le}
-use lib.Seq.{take-set-le, take-suc-set, append_snoc, drop-cons}
+use lib.ListN.{length, get_or, take, drop, set, length-set, replicate, length-replicate, drop_of_length-le, length-take}
+use lib.Seq.{get_or-take, take-set-le, take-suc-set, append_snoc, drop-cons}
 use lib.Dec.{ltb, leb-suc-suc}
 use borrow.Author.Tests.{lt-ltb}
+use Rattle.std.specs.Int.{from_bool}
 use Rattle.link.specs.declared.Link.{Link}
 use Rattle.table.specs.declared.Table.{Table}
 use Rattle.laws.specs.Kept.{kept}
@@ -18,6 +19,7 @@ use Rattle.link.specs.Link.{key_of, nothing, of_word}
 use Rattle.table.specs.Links.{held_of}
 use Rattle.table.specs.Sound.{is_sound}
 use Rattle.links.specs.Edits.{stays, dropped, tag_moved, table_drop, edited, edited_of}
+use Rattle.answers.specs.Numbers.{done_on}
 use Rattle.answers.proofs.Refusals.{none_left}
 use Rattle.answers.proofs.Rules.{accept}
 use Rattle.links.proofs.Calls.{own_checks}
@@ -89,6 +91,11 @@ module _ {A : Type 0} (p : A → Bool) (ls : List A) (d : A) (i : ℕ) (here : i
           let by : m ≡ 0 = f ∙ ap (λ (b : Bool). cond b (cond (ltb free i) 1 0) 0) g in
           ap (λ (b : Bool). moved + m + shifted p b (drop (i + 1) ls)) gone ∙ omega (arith, step, by, inv)
 
+-- a test as a number
+one_if : (b : Bool) → from_bool b ≡ cond b 1 0
+one_if true = refl
+one_if false = refl
+
 -- a link takes at most one place, and moves at most if it takes one
 pub one_place : (b : Bool) {s : ℕ} → s ≡ cond b 1 0 → s ≤ 1
 one_place true e = omega arith
@@ -131,9 +138,16 @@ module _ (tag : ℕ) (t : Table) where
       }
 
   module _ (whole : length t.words ≡ 512) (few : t.count ≤ 512) {new : List ℕ} {free moved i : ℕ} (at : Swept tag t new free moved i) where
-    pub swept_turn : i < t.count → {keep : Bool} → keep ≡ stays tag (of_word (get_or t.words i 0)) → {w s m : ℕ} → w ≡ cond keep (get_or t.words i 0) 0
-        → s ≡ cond keep 1 0 → m ≡ cond keep (cond (ltb free i) 1 0) 0 → Swept tag t (set new free w) (free + s) (moved + m) (i + 1)
-    swept_turn h {keep} found {w} {s} {m} stored e f =
+    pub swept_turn : {word : ℕ} → i < length (take t.count t.words) → word ≡ get_or (take t.count t.words) i 0 → {keep : Bool} → keep ≡ stays tag (of_word word)
+        → {w s m : ℕ} → w ≡ cond keep word 0 → s ≡ from_bool keep → m ≡ cond keep (from_bool (ltb free i)) 0
+        → Swept tag t (set new free w) (free + s) (moved + m) (i + 1)
+    swept_turn {word} passing is {keep} found' {w} {s} {m} stored' e₁ f₁ =
+        let h : i < t.count = omega (arith, length-take t.count t.words) in
+        let read : word ≡ get_or t.words i 0 = is ∙ get_or-take t.count t.words i 0 h in
+        let found : keep ≡ stays tag (of_word (get_or t.words i 0)) = found' ∙ ap (λ (n : ℕ). stays tag (of_word n)) read in
+        let stored : w ≡ cond keep (get_or t.words i 0) 0 = stored' ∙ ap (λ (n : ℕ). cond keep n 0) read in
+        let e : s ≡ cond keep 1 0 = e₁ ∙ one_if keep in
+        let f : m ≡ cond keep (cond (ltb free i) 1 0) 0 = f₁ ∙ ap (λ (n : ℕ). cond keep n 0) (one_if (ltb free i)) in
         let l : Link = get_or (held_of t).links i nothing in
         let here : i < length (held_of t).links = omega (arith, many t whole few) in
         let free-place : free < length new = omega (arith, at.packed, at.room) in
@@ -154,7 +168,7 @@ module _ (tag : ℕ) (t : Table) where
 
     -- at the end: the links that stay, and how many have moved
     pub swept_all : is_sound (held_of t) ≡ true → t.count ≤ i
-        → edited_of (record { answer = 0; moved = moved; table = record { count = free; words = new } }) ≡ edited (table_drop tag) (held_of t)
+        → edited_of (done_on (record { count = free; words = new }) moved) ≡ edited (table_drop tag) (held_of t)
     unfolding kept shifted dropped table_drop
     swept_all sound end =
         let over : drop i (held_of t).links ≡ [] = drop_of_length-le (held_of t).links {i = i} (omega (arith, many t whole few)) in

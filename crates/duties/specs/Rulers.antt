@@ -1,8 +1,8 @@
 -- Document 01, "Who rules a blind": the ruler, and the duty that follows from it.
 -- Assumes nothing.
-use Rattle.std.specs.Prelude.{ℕ, Bool, false, cond, eqb}
+use Rattle.std.specs.Prelude.{ℕ, Bool, false, cond, eqb, Option, Some, None}
 use Rattle.params.specs.declared.Reaction.{Reaction}
-use Rattle.blind.specs.declared.Forced.{Forced}
+use Rattle.heights.specs.declared.Direction.{Direction}
 use Rattle.blind.specs.declared.Blind.{Blind}
 use Rattle.duties.specs.declared.Ruler.{Ruler}
 use Rattle.duties.specs.declared.Duty.{Duty}
@@ -15,10 +15,9 @@ counts on Reaction.Down = on
 counts on Reaction.Stop = on
 
 -- The forced input rules if it has a direction.
-abbrev pub forced_ruler : Forced → Ruler
-forced_ruler Forced.No = Ruler.Nobody
-forced_ruler Forced.Up = Ruler.Forced
-forced_ruler Forced.Down = Ruler.Forced
+abbrev pub forced_ruler : Option Direction → Ruler
+forced_ruler None = Ruler.Nobody
+forced_ruler (Some d) = Ruler.Forced
 
 -- "The first of wind, rain, frost that is on and whose reaction is not ignore .. Otherwise forced .. Otherwise [nobody]."
 unfoldable pub ruler_of : Blind → Ruler
@@ -36,10 +35,10 @@ reaction_duty Reaction.Down = Duty.Down
 reaction_duty Reaction.Stop = Duty.Hold
 
 -- "Forced gives Up or Down."
-abbrev pub forced_duty : Forced → Duty
-forced_duty Forced.No = Duty.Free
-forced_duty Forced.Up = Duty.Up
-forced_duty Forced.Down = Duty.Down
+abbrev pub forced_duty : Option Direction → Duty
+forced_duty None = Duty.Free
+forced_duty (Some Direction.Up) = Duty.Up
+forced_duty (Some Direction.Down) = Duty.Down
 
 -- The duty that a ruler gives. "Otherwise the duty is Free."
 unfoldable pub duty_under : Ruler → Blind → Duty

@@ -4,7 +4,8 @@
 
 pub mod rulers;
 
-// Whose word the blind follows. Commands reach the motor only while nobody rules.
+// Whose word the blind follows. Commands reach the motor only while nobody rules. Nobody stands among them, since each
+// of the five gives a duty.
 #[derive(Clone, Copy)]
 pub enum Ruler {
     Nobody,
@@ -14,7 +15,7 @@ pub enum Ruler {
     Forced,
 }
 
-#[derive(Clone, Copy)]
+#[derive(Clone, Copy, PartialEq, Eq)]
 pub enum Duty {
     Free,
     Up,

@@ -9,7 +9,7 @@ use lib.ListN.{length, take, drop, drop_of_length-le}
 use lib.Seq.{drop-cons, drop-drop}
 use Rattle.words.proofs.WordByWord.{part}
 use Rattle.rows.specs.Lines.{until}
-use Rattle.decimals.specs.declared.Number.{Number}
+use Rattle.std.specs.Prelude.{Option}
 use Rattle.arguments.specs.declared.Arguments.{Arguments}
 use Rattle.arguments.specs.Arguments.{with, heard_by}
 use Rattle.fields.specs.Parts.{parts, parts_after}
@@ -28,8 +28,8 @@ module _ (mark : ℕ) (line : List ℕ) (at : ℕ) where
       ∙ ap₂ (λ (k : ℕ) (l : List ℕ). take k from ∷ parts_after mark l) size
       (drop-drop (until mark from) (at + 1) line ∙ ap (λ (k : ℕ). drop k line) (sym e))
 
-  module _ (read : List ℕ → Number) (a : Arguments) {whole : Arguments} where
-    pub heard_more : (end : ℕ) {b : Arguments} {field : Number} → at < length line → end ≡ at + 1 + until mark (drop (at + 1) line)
+  module _ (read : List ℕ → Option ℕ) (a : Arguments) {whole : Arguments} where
+    pub heard_more : (end : ℕ) {b : Arguments} {field : Option ℕ} → at < length line → end ≡ at + 1 + until mark (drop (at + 1) line)
         → field ≡ read (part (at + 1) end line) → b ≡ with a field
         → heard_by read a (parts_after mark (drop at line)) ≡ whole → heard_by read b (parts_after mark (drop end line)) ≡ whole
     unfolding heard_by

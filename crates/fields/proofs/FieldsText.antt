@@ -1,36 +1,18 @@
 -- Numbers put one after the other, each after its tab, and a line as its word and its numbers.
 -- Assumes nothing.
 use Prim.Native.Nat.{ℕ, suc, ◌+◌, ◌^◌, ◌≤◌, ◌<◌}
-use native.Mathlib.Numerals.{add-one}
 use native.Mathlib.Omega.{arith}
 use mathlib.Core.Path.{◌≡◌, refl, sym, ap, ◌∙◌}
-use mathlib.Core.List.{List, [], ◌∷◌, ◌++◌, map, append_assoc}
-use lib.ListN.{length, get_or, drop, drop_of_length-le, length-append}
-use lib.Seq.{drop-cons}
+use mathlib.Core.List.{List, [], ◌∷◌, ◌++◌, map, append_assoc, append-nil}
+use lib.ListN.{length, get_or, take, length-append}
+use Rattle.std.proofs.lemmas.List.{take_all, take_more}
 use Rattle.laws.proofs.Maps.{map_both}
-use Rattle.texts.specs.Sheet.{Sheet, put, puts, joined}
-use Rattle.texts.proofs.Sheet.{puts_append, joined_append}
+use Rattle.texts.specs.Sheet.{Sheet, puts, joined}
+use Rattle.texts.proofs.Sheets.{puts_append, joined_append}
 use Rattle.decimals.specs.Decimals.{decimal}
 use Rattle.decimals.proofs.Plain.{decimal_length}
 use Rattle.fields.specs.Parts.{between}
 use Rattle.fields.specs.Lines.{tab, line_feed, Line, line, line_bytes, fields_text, line_text}
-
--- ---- a walk: what is left of the numbers makes what all of them do
-
-module _ (ns : List ℕ) (i : ℕ) (s : Sheet) {whole : Sheet} where
-  pub fields_more : {t u : Sheet} → i < length ns → t ≡ put tab s → u ≡ puts (decimal (get_or ns i 0)) t
-      → puts (fields_text (drop i ns)) s ≡ whole → puts (fields_text (drop (i + 1) ns)) u ≡ whole
-  unfolding fields_text joined puts
-  fields_more {t} {u} h parted put_on e =
-      ap (puts (fields_text (drop (i + 1) ns))) (put_on ∙ ap (puts (decimal (get_or ns i 0))) parted)
-      ∙ ap (λ (k : ℕ). puts (fields_text (drop k ns)) (puts (decimal (get_or ns i 0)) (put tab s))) (add-one i)
-      ∙ sym (puts_append (decimal (get_or ns i 0)) (fields_text (drop (suc i) ns)) (put tab s))
-      ∙ sym (ap (λ (l : List ℕ). puts (fields_text l) s) (drop-cons ns i 0 h))
-      ∙ e
-
-  pub fields_end : length ns ≤ i → puts (fields_text (drop i ns)) s ≡ whole → s ≡ whole
-  unfolding fields_text joined puts
-  fields_end h e = sym (ap (λ (l : List ℕ). puts (fields_text l) s) (drop_of_length-le ns h)) ∙ e
 
 -- ---- a line is its word, its numbers after their tabs, and a line feed
 
@@ -68,18 +50,28 @@ line_length word ns =
 
 -- ---- on a sheet
 
-pub put_both : (ms ns : List ℕ) (s : Sheet) {t u : Sheet} → t ≡ puts (fields_text ms) s → u ≡ puts (fields_text ns) t → u ≡ puts (fields_text (ms ++ ns)) s
-put_both ms ns s first second =
-    second
-    ∙ ap (puts (fields_text ns)) first
-    ∙ sym (puts_append (fields_text ms) (fields_text ns) s)
-    ∙ ap (λ (l : List ℕ). puts l s) (sym (fields_append ms ns))
+module _ (ns : List ℕ) (s : Sheet) where
+  -- a number more
+  pub fields_more : (i : ℕ) → i < length ns
+      → puts (fields_text (take (i + 1) ns)) s ≡ puts (decimal (get_or ns i 0)) (puts (tab ∷ []) (puts (fields_text (take i ns)) s))
+  unfolding fields_text joined puts
+  fields_more i h =
+      let n = get_or ns i 0 in
+      ap (λ (l : List ℕ). puts (fields_text l) s) (take_more ns i 0 h)
+      ∙ ap (λ (l : List ℕ). puts l s) (fields_append (take i ns) (n ∷ []))
+      ∙ puts_append (fields_text (take i ns)) ((tab ∷ decimal n) ++ []) s
+      ∙ ap (λ (l : List ℕ). puts l (puts (fields_text (take i ns)) s)) (append-nil (tab ∷ decimal n))
 
-pub put_line : (word ns : List ℕ) (s : Sheet) {t u v : Sheet} → t ≡ puts word s → u ≡ puts (fields_text ns) t → v ≡ puts (line_feed ∷ []) u
-    → v ≡ puts (line_text (line word ns)) s
-put_line word ns s named numbered ended =
-    ended
-    ∙ ap (puts (line_feed ∷ [])) (numbered ∙ ap (puts (fields_text ns)) named)
-    ∙ sym (puts_append (fields_text ns) (line_feed ∷ []) (puts word s))
-    ∙ sym (puts_append word (fields_text ns ++ line_feed ∷ []) s)
-    ∙ ap (λ (l : List ℕ). puts l s) (sym (line_fields word ns))
+  pub fields_all : (i : ℕ) → length ns ≤ i → puts (fields_text (take i ns)) s ≡ puts (fields_text ns) s
+  fields_all i h = ap (λ (l : List ℕ). puts (fields_text l) s) (take_all i ns h)
+
+  -- numbers after others
+  pub put_both : (ms : List ℕ) → puts (fields_text (ms ++ ns)) s ≡ puts (fields_text ns) (puts (fields_text ms) s)
+  put_both ms = ap (λ (l : List ℕ). puts l s) (fields_append ms ns) ∙ puts_append (fields_text ms) (fields_text ns) s
+
+  -- a line
+  pub put_line : (word : List ℕ) → puts (line_text (line word ns)) s ≡ puts (line_feed ∷ []) (puts (fields_text ns) (puts word s))
+  put_line word =
+      ap (λ (l : List ℕ). puts l s) (line_fields word ns)
+      ∙ puts_append word (fields_text ns ++ line_feed ∷ []) s
+      ∙ puts_append (fields_text ns) (line_feed ∷ []) (puts word s)

@@ -1,30 +1,28 @@
 // Lines put on a sheet, and numbers as the fields of a line.
-ghost use Rattle.std.specs.Prelude.{◌≡◌};
-ghost use Rattle.texts.specs.Sheet.{sheet, puts};
+ghost use Rattle.texts.specs.Lent.{Puts};
 ghost use Rattle.fields.specs.Lines.{line, fields_text, line_text};
 
 use crate::TAB;
 use decimals::put_number;
-use texts::{put, put_text};
+use texts::Sheet;
 
 // Numbers more, each after a tab.
-pub fn put_fields(out: &mut [u8], at: usize, numbers: &[u64]) -> usize
-    ensures { sheet out.new result ≡ puts (fields_text numbers.now) (sheet out.old at) }
+#[tactic(auto, using(crate::proofs::FieldsText::fields_more, crate::proofs::FieldsText::fields_all), unfolding(crate::specs::Lines::fields_text, texts::specs::Sheet::joined, texts::specs::Sheet::puts))]
+pub fn put_fields(sheet: &mut Sheet<'_>, numbers: &[u64])
+    ensures { Puts (fields_text numbers.now) sheet.old sheet.new }
 {
-    let mut next = at;
-    for i in 0..numbers.len() {
-        let parted = put(out, next, TAB);
-        next = put_number(out, parted, numbers[i]);
+    for &number in numbers {
+        sheet.put(TAB);
+        put_number(sheet, number);
     }
-    next
 }
 
 // A line more: a word, its numbers, and the line feed.
 #[tactic(auto, using(crate::proofs::FieldsText::put_line))]
-pub fn put_line(out: &mut [u8], at: usize, word: &[u8], numbers: &[u64]) -> usize
-    ensures { sheet out.new result ≡ puts (line_text (line word.now numbers.now)) (sheet out.old at) }
+pub fn put_line(sheet: &mut Sheet<'_>, word: &[u8], numbers: &[u64])
+    ensures { Puts (line_text (line word.now numbers.now)) sheet.old sheet.new }
 {
-    let next = put_text(out, at, word);
-    let end = put_fields(out, next, numbers);
-    put_text(out, end, b"\n")
+    sheet.put_text(word);
+    put_fields(sheet, numbers);
+    sheet.put(b'\n');
 }

@@ -1,38 +1,38 @@
 -- A file written as one word byte by byte, and read again.
 -- Assumes nothing.
-use Prim.Native.Nat.{ℕ, suc, ◌+◌, ◌≤◌, ◌<◌}
-use native.Mathlib.Numerals.{add-one}
+use Prim.Native.Nat.{ℕ, ◌+◌, ◌≤◌, ◌<◌}
 use mathlib.Core.Path.{◌≡◌, refl, sym, ap, ap₂, ◌∙◌}
 use mathlib.Core.Bool.{Bool, true, false, cond, not, true≢false}
-use mathlib.Core.List.{List, [], ◌∷◌, ◌++◌}
-use lib.ListN.{length, get_or, drop, drop_of_length-le}
-use lib.Seq.{drop-cons}
+use mathlib.Core.List.{List, [], ◌∷◌, ◌++◌, append-nil, append_assoc}
+use lib.ListN.{length, get_or, take}
 use lib.Dec.{eqb}
 use borrow.Author.Tests.{eqb-true}
+use Rattle.std.proofs.lemmas.List.{take_all, take_more}
 use Rattle.laws.specs.Fills.{tabulate}
 use Rattle.laws.specs.Every.{every}
 use Rattle.laws.proofs.Choices.{both_left, both_right}
 use Rattle.texts.specs.Text.{text}
 use Rattle.texts.specs.Sheet.{Sheet, puts}
-use Rattle.texts.proofs.Sheet.{puts_append}
+use Rattle.texts.proofs.Sheets.{puts_append}
 use Rattle.file_word.specs.declared.signs.Sign.{Sign}
 use Rattle.file_word.specs.declared.signs.Step.{Step}
 use Rattle.file_word.specs.FileWord.{goes_on, stands, given, plain, lettered, with, is_over, is_file_in, is_file, unpacked_in, unpacked, packed_byte, packed}
 
-module _ (bytes : List ℕ) (i : ℕ) (before : Sheet) {whole : Sheet} where
-  pub packed_more : {after : Sheet} → i < length bytes → after ≡ puts (packed_byte (get_or bytes i 0)) before
-      → puts (packed (drop i bytes)) before ≡ whole → puts (packed (drop (i + 1) bytes)) after ≡ whole
-  unfolding packed
-  packed_more h put e =
-      ap (puts (packed (drop (i + 1) bytes))) put
-      ∙ ap (λ (k : ℕ). puts (packed (drop k bytes)) (puts (packed_byte (get_or bytes i 0)) before)) (add-one i)
-      ∙ sym (puts_append (packed_byte (get_or bytes i 0)) (packed (drop (suc i) bytes)) before)
-      ∙ sym (ap (λ (l : List ℕ). puts (packed l) before) (drop-cons bytes i 0 h))
-      ∙ e
+packed_append : (xs ys : List ℕ) → packed (xs ++ ys) ≡ packed xs ++ packed ys
+unfolding packed
+packed_append [] ys = refl
+packed_append (x ∷ xs) ys = ap (λ (l : List ℕ). packed_byte x ++ l) (packed_append xs ys) ∙ sym (append_assoc (packed_byte x) (packed xs) (packed ys))
 
-  pub packed_end : length bytes ≤ i → puts (packed (drop i bytes)) before ≡ whole → before ≡ whole
-  unfolding packed puts
-  packed_end h e = sym (ap (λ (l : List ℕ). puts (packed l) before) (drop_of_length-le bytes h)) ∙ e
+module _ (bytes : List ℕ) (i : ℕ) (s : Sheet) where
+  pub packed_more : i < length bytes → puts (packed (take (i + 1) bytes)) s ≡ puts (packed_byte (get_or bytes i 0)) (puts (packed (take i bytes)) s)
+  unfolding packed
+  packed_more h =
+      ap (λ (l : List ℕ). puts (packed l) s) (take_more bytes i 0 h)
+      ∙ ap (λ (l : List ℕ). puts l s) (packed_append (take i bytes) (get_or bytes i 0 ∷ []) ∙ ap (λ (l : List ℕ). packed (take i bytes) ++ l) (append-nil (packed_byte (get_or bytes i 0))))
+      ∙ puts_append (packed (take i bytes)) (packed_byte (get_or bytes i 0)) s
+
+  pub packed_all : length bytes ≤ i → puts (packed (take i bytes)) s ≡ puts (packed bytes) s
+  packed_all h = ap (λ (l : List ℕ). puts (packed l) s) (take_all i bytes h)
 
 -- ---- and read again
 

@@ -4,12 +4,12 @@ use Prim.Native.Nat.{ℕ, ◌+◌, ◌≤◌, ◌<◌}
 use native.Mathlib.Numerals.{add-one}
 use native.Mathlib.Omega.{arith}
 use mathlib.Core.Path.{◌≡◌, sym, ap, ◌∙◌}
-use mathlib.Core.Bool.{Bool, true, false, cond}
-use mathlib.Core.List.{List, [], ◌∷◌, ◌++◌}
+use mathlib.Core.List.{List, [], ◌∷◌}
 use lib.ListN.{length, get_or, drop, drop_of_length-le, length-append}
 use lib.Seq.{drop-cons}
+use Rattle.std.specs.Prelude.{Option, Some, None, option_to_list}
 use Rattle.texts.specs.Sheet.{Sheet, puts}
-use Rattle.texts.proofs.Sheet.{puts_append}
+use Rattle.texts.proofs.Sheets.{puts_append}
 use Rattle.file_word.specs.declared.signs.Sign.{Sign}
 use Rattle.file_word.specs.declared.signs.Step.{Step}
 use Rattle.file_word.specs.FileWord.{given, is_over, with, is_file_in, unpacked_in, unpacked}
@@ -21,41 +21,36 @@ module _ (word : List ℕ) (i : ℕ) (sign : Sign) where
 
   -- ---- whether it is a file
 
-  pub judged_more : {step : Step} {whole : Bool} → i < length word → step ≡ with sign (get_or word i 0)
-      → is_file_in sign (drop i word) ≡ whole → is_file_in step.sign (drop (i + 1) word) ≡ whole
+  pub judged_more : i < length word → is_file_in sign (drop i word) ≡ is_file_in (with sign (get_or word i 0)).sign (drop (i + 1) word)
   unfolding is_file_in
-  judged_more h read e =
-      ap (λ (s : Step). is_file_in s.sign (drop (i + 1) word)) read ∙ sym (ap (is_file_in sign) (left h)) ∙ e
+  judged_more h = ap (is_file_in sign) (left h)
 
-  pub judged_end : {whole : Bool} → length word ≤ i → is_file_in sign (drop i word) ≡ whole → is_over sign ≡ whole
+  pub judged_end : length word ≤ i → is_file_in sign (drop i word) ≡ is_over sign
   unfolding is_file_in
-  judged_end h e = sym (ap (is_file_in sign) (drop_of_length-le word h)) ∙ e
+  judged_end h = ap (is_file_in sign) (drop_of_length-le word h)
 
   -- ---- what it stands for
 
-  pub unpacked_more : {step : Step} (before : Sheet) {after whole : Sheet} → i < length word → step ≡ with sign (get_or word i 0)
-      → after ≡ puts (given step) before
-      → puts (unpacked_in sign (drop i word)) before ≡ whole → puts (unpacked_in step.sign (drop (i + 1) word)) after ≡ whole
+  pub unpacked_more : (before : Sheet) → i < length word
+      → puts (unpacked_in sign (drop i word)) before
+      ≡ puts (unpacked_in (with sign (get_or word i 0)).sign (drop (i + 1) word)) (puts (given (with sign (get_or word i 0))) before)
   unfolding unpacked_in
-  unpacked_more {step} before h read put e =
-      ap (puts (unpacked_in step.sign (drop (i + 1) word))) put
-      ∙ sym (puts_append (given step) (unpacked_in step.sign (drop (i + 1) word)) before)
-      ∙ ap (λ (s : Step). puts (given s ++ unpacked_in s.sign (drop (i + 1) word)) before) read
-      ∙ sym (ap (λ (l : List ℕ). puts (unpacked_in sign l) before) (left h))
-      ∙ e
+  unpacked_more before h =
+      ap (λ (l : List ℕ). puts (unpacked_in sign l) before) (left h)
+      ∙ puts_append (given (with sign (get_or word i 0))) (unpacked_in (with sign (get_or word i 0)).sign (drop (i + 1) word)) before
 
-  pub unpacked_end : (before : Sheet) {whole : Sheet} → length word ≤ i → puts (unpacked_in sign (drop i word)) before ≡ whole → before ≡ whole
+  pub unpacked_end : (before : Sheet) → length word ≤ i → puts (unpacked_in sign (drop i word)) before ≡ before
   unfolding unpacked_in puts
-  unpacked_end before h e = sym (ap (λ (l : List ℕ). puts (unpacked_in sign l) before) (drop_of_length-le word h)) ∙ e
+  unpacked_end before h = ap (λ (l : List ℕ). puts (unpacked_in sign l) before) (drop_of_length-le word h)
 
 -- ---- a file has no more bytes than its word
 
 given_few : (step : Step) → length (given step) ≤ 1
 given_few step = go step.gives
   where
-    go : (t : Bool) → length (cond t (step.byte ∷ []) []) ≤ 1
-    go true = omega arith
-    go false = omega arith
+    go : (gives : Option ℕ) → length (option_to_list gives) ≤ 1
+    go None = omega arith
+    go (Some byte) = omega arith
 
 no_longer : (sign : Sign) (word : List ℕ) → length (unpacked_in sign word) ≤ length word
 unfolding unpacked_in

@@ -1,7 +1,7 @@
 -- "FILE is the bytes of a plant file as one word. A backslash (92) begins a sign for bytes that could not stand in a word, or not be
 -- seen there; every other byte stands for itself."
 -- Assumes nothing.
-use Rattle.std.specs.Prelude.{ℕ, ◌+◌, ◌*◌, ◌%◌, Bool, true, false, cond, ◌&&◌, ◌||◌, List, [], ◌∷◌, ◌++◌, eqb, leb}
+use Rattle.std.specs.Prelude.{ℕ, ◌+◌, ◌*◌, ◌%◌, Bool, true, false, cond, ◌&&◌, ◌||◌, Some, None, option_to_list, List, [], ◌∷◌, ◌++◌, eqb, leb}
 use Prim.Native.Char.{code}
 use Prim.Native.String.{String, char_at}
 use Rattle.texts.specs.Text.{text}
@@ -16,11 +16,11 @@ letter s = code (char_at s 0)
 
 -- A sign is read so far and gives no byte.
 abbrev pub goes_on : Sign → Step
-goes_on sign = record { sign = sign; gives = false; byte = 0 }
+goes_on sign = record { sign = sign; gives = None }
 
 -- What was read stands for a byte.
 abbrev pub stands : ℕ → Step
-stands byte = record { sign = Sign.Over; gives = true; byte = byte }
+stands byte = record { sign = Sign.Over; gives = Some byte }
 
 -- "Hexadecimal digits, 0 to 9 and A to F, capital or small".
 abbrev pub is_within : ℕ → ℕ → ℕ → Bool
@@ -81,10 +81,11 @@ is_file_in sign (byte ∷ bytes) = is_file_in (with sign byte).sign bytes
 unfoldable pub is_file : List ℕ → Bool
 is_file = is_file_in Sign.Over
 
--- The bytes that a word stands for.
+-- The byte that a step gives, if it gives one.
 abbrev pub given : Step → List ℕ
-given step = cond step.gives (step.byte ∷ []) []
+given step = option_to_list step.gives
 
+-- The bytes that a word stands for.
 unfoldable pub unpacked_in : Sign → List ℕ → List ℕ
 unpacked_in sign [] = []
 unpacked_in sign (byte ∷ bytes) = given (with sign byte) ++ unpacked_in (with sign byte).sign bytes

@@ -5,63 +5,56 @@ mod signs;
 
 ghost use Rattle.std.specs.Prelude.{◌≡◌};
 ghost use Rattle.texts.specs.Sheet.{sheet, puts};
+ghost use Rattle.texts.specs.Lent.{Puts};
 ghost use Rattle.file_word.specs.FileWord.{is_file, unpacked, packed_byte, packed};
 
 use crate::signs::Sign;
-use texts::{put, put_text};
-
-pub(crate) const TAB: u8 = 9;
-
-pub(crate) const LINE_FEED: u8 = 10;
+use texts::Sheet;
 
 // Whether a word is a file: each backslash begins a sign, and the sign is whole.
-#[tactic(auto, using(crate::proofs::Unpacking::judged_more, crate::proofs::Unpacking::judged_end), unfolding(crate::specs::FileWord::is_file))]
+#[tactic(auto, using(crate::proofs::Unpacking::judged_more, crate::proofs::Unpacking::judged_end), unfolding(crate::specs::FileWord::is_file, crate::specs::FileWord::is_over))]
 pub fn is_file(word: &[u8]) -> bool
     ensures { result ≡ is_file word.now }
 {
     let mut sign = Sign::Over;
-    for i in 0..word.len() {
-        let step = sign.with(word[i]);
-        sign = step.sign;
+    for &byte in word {
+        sign = sign.with(byte).sign;
     }
-    sign.is_over()
+    sign == Sign::Over
 }
 
-// Puts the bytes that a word stands for on a sheet, from its front.
-#[tactic(auto, unfolding(crate::specs::FileWord::unpacked))]
+// Puts the bytes that a word stands for on a lent row, from its front, and hands back how many they are.
+#[tactic(auto, using(crate::proofs::Unpacking::unpacked_more, crate::proofs::Unpacking::unpacked_end), unfolding(crate::specs::FileWord::unpacked))]
 pub fn unpack(word: &[u8], out: &mut [u8]) -> usize
     ensures { sheet out.new result ≡ puts (unpacked word.now) (sheet out.old 0) }
 {
+    let mut sheet = Sheet { bytes: out, at: 0 };
     let mut sign = Sign::Over;
-    let mut next = 0;
-    for i in 0..word.len() {
-        let step = sign.with(word[i]);
-        next = step.put_given(out, next);
+    for &byte in word {
+        let step = sign.with(byte);
+        step.put_given(&mut sheet);
         sign = step.sign;
     }
-    next
+    sheet.at
 }
 
 // Puts the bytes of a file on a sheet as they stand in one word.
-pub fn put_packed(out: &mut [u8], at: usize, bytes: &[u8]) -> usize
-    ensures { sheet out.new result ≡ puts (packed bytes.now) (sheet out.old at) }
+#[tactic(auto, using(crate::proofs::Packing::packed_more, crate::proofs::Packing::packed_all), unfolding(crate::specs::FileWord::packed, texts::specs::Sheet::puts))]
+pub fn put_packed(sheet: &mut Sheet<'_>, bytes: &[u8])
+    ensures { Puts (packed bytes.now) sheet.old sheet.new }
 {
-    let mut next = at;
-    for i in 0..bytes.len() {
-        next = put_byte(out, next, bytes[i]);
+    for &byte in bytes {
+        put_byte(sheet, byte);
     }
-    next
 }
 
-#[tactic(auto, unfolding(texts::specs::Text::text, laws::specs::Fills::tabulate, texts::specs::Sheet::puts, crate::specs::FileWord::packed_byte))]
-fn put_byte(out: &mut [u8], at: usize, byte: u8) -> usize
-    ensures { sheet out.new result ≡ puts (packed_byte byte) (sheet out.old at) }
+#[tactic(auto, unfolding(texts::specs::Text::text, laws::specs::Fills::tabulate, crate::specs::FileWord::packed_byte))]
+fn put_byte(sheet: &mut Sheet<'_>, byte: u8)
+    ensures { Puts (packed_byte byte) sheet.old sheet.new }
 {
-    if byte == TAB {
-        return put_text(out, at, b"\\t");
+    match byte {
+        b'\t' => sheet.put_text(b"\\t"),
+        b'\n' => sheet.put_text(b"\\n"),
+        _ => sheet.put(byte),
     }
-    if byte == LINE_FEED {
-        return put_text(out, at, b"\\n");
-    }
-    put(out, at, byte)
 }

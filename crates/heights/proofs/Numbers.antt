@@ -1,6 +1,6 @@
--- Which numbers heights can be: products and parts that fit their machine words, and targets that no end is beyond.
+-- Which numbers heights can be: parts of the way within it, and targets that no end is beyond.
 -- Assumes nothing.
-use Prim.Native.Nat.{ℕ, ◌*◌, ◌/◌, ◌^◌, ◌<◌, ◌≤◌}
+use Prim.Native.Nat.{ℕ, ◌*◌, ◌/◌, ◌≤◌}
 use native.Mathlib.Nat.{mul-le-mul_right}
 use native.Mathlib.Omega.{arith}
 use Rattle.params.specs.declared.Params.{Params}
@@ -8,20 +8,11 @@ use Rattle.params.specs.Parameters.{SoundParams}
 use Rattle.heights.specs.declared.Direction.{Direction}
 use Rattle.heights.specs.Heights.{full_time, bottom, target}
 
--- A byte times a number of 32 bits has at most 64.
-pub byte_product : (v m : ℕ) → v < 2 ^ 8 → m < 2 ^ 32 → v * m < 2 ^ 64
-byte_product v m v-byte m-word =
-    let bound : v * m ≤ 255 * m = mul-le-mul_right m (omega arith) in
-    omega arith
-
 -- A part of 255 is no more than the whole.
 pub part_within : (v m : ℕ) → v ≤ 255 → v * m / 255 ≤ m
 part_within v m h =
     let bound : v * m ≤ 255 * m = mul-le-mul_right m h in
     omega arith
-
-pub whole_word : (v m : ℕ) → v < 2 ^ 8 → m < 2 ^ 32 → v * m / 255 < 2 ^ 32
-whole_word v m v-byte m-word = let bound : v * m / 255 ≤ m = part_within v m (omega arith) in omega arith
 
 -- No target is below the lower end.
 pub target_within : (v : ℕ) (p : Params) → v ≤ 255 → target v p ≤ bottom p

@@ -8,7 +8,7 @@ ghost use Rattle.heights.specs.Heights.{full_time, bottom, next_height, next_pla
 
 use params::Params;
 
-#[derive(Clone, Copy)]
+#[derive(Clone, Copy, PartialEq, Eq)]
 pub enum Direction {
     Up,
     Down,
@@ -21,7 +21,8 @@ pub struct Place {
     pub valid: bool,
 }
 
-// The way to a target: the blind is there, or it goes in a direction for some milliseconds.
+// The way to a target: the blind is there, or it goes in a direction for some milliseconds. `Met` is the paper's "length 0
+// is a stop": as the None of an Option it would read as a target without a way.
 #[derive(Clone, Copy)]
 pub enum Way {
     Met,
@@ -77,7 +78,7 @@ pub fn end(direction: Direction, params: Params) -> Place
 pub fn target(v: u8, params: Params) -> u32
     ensures { result ≡ target v params }
 {
-    let far = v as u64 * bottom(params) as u64 / BOTTOM_BYTE;
+    let far = u64::from(v) * u64::from(bottom(params)) / BOTTOM_BYTE;
     far as u32
 }
 
@@ -113,11 +114,10 @@ impl Place {
     pub fn way_to(self, target: u32, params: Params) -> Way
         ensures { result ≡ way_to params target self }
     {
-        let position = self.position;
-        if position < target {
-            Way::Go(Direction::Down, target - position)
-        } else if target < position {
-            Way::Go(Direction::Up, position - target)
+        if self.position < target {
+            Way::Go(Direction::Down, target - self.position)
+        } else if target < self.position {
+            Way::Go(Direction::Up, self.position - target)
         } else {
             Way::Met
         }
@@ -137,14 +137,8 @@ fn next_height(direction: Direction, bottom: u32, position: u32) -> u32
     ensures { result ≡ next_height direction bottom position }
 {
     match direction {
-        Direction::Up => { if position == 0 { 0 } else { position - 1 } }
-        Direction::Down => {
-            if position < bottom {
-                position + 1
-            } else {
-                bottom
-            }
-        }
+        Direction::Up => position.saturating_sub(1),
+        Direction::Down => position.saturating_add(1).min(bottom),
     }
 }
 
@@ -181,11 +175,5 @@ fn nearest_part(position: u32, bottom: u32) -> u64
 fn kept_between(part: u64) -> u64
     ensures { result ≡ kept_between part }
 {
-    if part < LEAST {
-        LEAST
-    } else if MOST < part {
-        MOST
-    } else {
-        part
-    }
+    part.clamp(LEAST, MOST)
 }

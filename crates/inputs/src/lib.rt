@@ -14,7 +14,8 @@ pub enum Command {
     Position(u8),
 }
 
-// What a byte for SAPBP asks of a blind: nothing, an end, or the way to a target between the ends.
+// What a byte for SAPBP asks of a blind: nothing, an end, or the way to a target between the ends. Three cases of equal
+// rank, each with a row of its own in `followed`: an Option of the other two would only nest them.
 #[derive(Clone, Copy)]
 pub enum Aim {
     Dropped,

@@ -1,7 +1,7 @@
 // Document 01, "Orders": what the inputs MUD, STOP, SSUD and SAPBP order. What a byte for SAPBP asks is
 // worked out first, as an aim, and then followed.
 ghost use Rattle.std.specs.Prelude.{◌≡◌};
-ghost use Rattle.inputs.specs.Inputs.{full_run, step, mud, is_step, steps, ssud, towards, aimed_between, aimed, followed, sapbp, acted};
+ghost use Rattle.inputs.specs.Inputs.{full_run, step, mud, steps, ssud, towards, aimed_between, aimed, followed, sapbp, acted};
 
 use crate::{Aim, Command};
 use blind::{Blind, Motion};
@@ -42,9 +42,7 @@ fn full_run(params: Params, direction: Direction) -> Run
 fn ssud(blind: Blind, direction: Direction) -> Blind
     ensures { result ≡ ssud direction blind }
 {
-    let motion = blind.motion;
-    let steps = steps(motion);
-    if steps {
+    if steps(blind.motion) {
         blind.order(step(blind.params, direction))
     } else {
         blind.stop()
@@ -66,19 +64,7 @@ fn steps(motion: Motion) -> bool
 {
     match motion {
         Motion::Off(_) => true,
-        Motion::Waits(_, run) => is_step(run),
-        Motion::Runs(run) => is_step(run),
-    }
-}
-
-fn is_step(run: Run) -> bool
-    ensures { result ≡ is_step run.goal }
-{
-    let goal = run.goal;
-    match goal {
-        Goal::Full => false,
-        Goal::Step => true,
-        Goal::Position => false,
+        Motion::Waits(_, run) | Motion::Runs(run) => run.goal == Goal::Step,
     }
 }
 
@@ -132,9 +118,8 @@ pub fn aim(blind: Blind, v: u8) -> Aim
 fn aim_between(blind: Blind, v: u8) -> Aim
     ensures { result ≡ aimed_between v blind }
 {
-    let place = blind.place;
-    if place.valid {
-        Aim::To(place.way_to(target(v, blind.params), blind.params))
+    if blind.place.valid {
+        Aim::To(blind.place.way_to(target(v, blind.params), blind.params))
     } else {
         Aim::Dropped
     }

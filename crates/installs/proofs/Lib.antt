@@ -1,5 +1,4 @@
 pub mod Passed
-pub mod Judged
 pub mod Exact
 pub mod Soundness
 pub mod Untouched

@@ -7,7 +7,8 @@ use Rattle.params.specs.declared.Params.{Params}
 use Rattle.params.specs.Numbers.{params_of, allowed}
 use Rattle.blind.specs.Orders.{fresh_of}
 use Rattle.tags.specs.Tags.{places}
-use Rattle.panel.specs.Panel.{Seat, present_in, reseated}
+use Rattle.panel.specs.declared.Seat.{Seat}
+use Rattle.panel.specs.Panel.{present_in, reseated}
 use Rattle.terminals.specs.Strip.{terminals}
 use Rattle.panel.specs.Calls.{checks, CallRule}
 use Rattle.seats.specs.Seats.{in_use}

@@ -1,35 +1,14 @@
--- A part of a list copied to another place in it, element by element (`paste`): what the loops leave that move the elements from a
--- place on up by one, to put a new one there, or down by one, to take one out. Assumes nothing.
+-- A part of a list copied to another place in it (`paste`): what is left where the elements from a place on move up by one, to put a
+-- new one there, or down by one, to take one out. Assumes nothing.
 use Prim.Native.Nat.{ℕ, zero, suc, ◌+◌, ◌-◌, ◌≤◌, ◌<◌}
 use native.Mathlib.Numerals.{add-one}
 use native.Mathlib.Omega.{arith}
 use mathlib.Core.Path.{◌≡◌, sym, ap, ap₂, ◌∙◌}
 use mathlib.Core.List.{List, [], ◌∷◌, ◌++◌}
 use lib.ListN.{length, get_or, take, drop, set, length-append, length-drop}
-use lib.Seq.{length-take-le, get_or-drop, take-take, take-nil, take_at, take-paste, drop-paste, paste, paste-zero, paste-suc, set-append_left, take-set-lt, take-suc-set, append_snoc}
+use lib.Seq.{length-take-le, get_or-drop, take-take, take-nil, take_at, take-paste, drop-paste, paste, set-append_left, take-set-lt, take-suc-set, append_snoc}
 
 module _ {A : Type 0} where
-  -- one turn of a loop that copies: k elements are copied, and the next one, read at i, is stored at j
-  pub copy_turn : (l : List A) (to from k : ℕ) (d : A) {i j : ℕ} → i ≡ from + k → j ≡ to + k → i < length l → j < length l
-      → set (paste l to (drop from l) k) j (get_or l i d) ≡ paste l to (drop from l) (suc k)
-  copy_turn l to from k d {i} {j} e f hi hj =
-      ap₂ (λ (n : ℕ) (a : A). set (paste l to (drop from l) k) n a) f (ap (λ (n : ℕ). get_or l n d) e ∙ sym (get_or-drop from l k d))
-      ∙ paste-suc l to (drop from l) k d (omega arith) (omega (arith, length-drop from l))
-
-  pub copy_none : (l : List A) (to from : ℕ) {i : ℕ} → i ≡ from → l ≡ paste l to (drop from l) (i - from)
-  copy_none l to from {i} e =
-      let nothing : zero ≡ i - from = omega arith in
-      paste-zero l to (drop from l) ∙ ap (paste l to (drop from l)) nothing
-
-  -- one more turn, where the elements from `from` up to i are copied
-  pub copy_more : (l new : List A) (to from : ℕ) (d : A) {i j : ℕ} → from ≤ i → j + from ≡ i + to → i < length l → j < length l
-      → new ≡ paste l to (drop from l) (i - from) → set new j (get_or l i d) ≡ paste l to (drop from l) (i + 1 - from)
-  copy_more l new to from d {i} {j} h e hi hj inv =
-      let one : suc (i - from) ≡ i + 1 - from = omega arith in
-      ap (λ (m : List A). set m j (get_or l i d)) inv
-      ∙ copy_turn l to from (i - from) d (omega arith) (omega arith) hi hj
-      ∙ ap (paste l to (drop from l)) one
-
   -- what stands after the elements that a copy stores is as it was
   pub copied_after : (l : List A) (to from k : ℕ) (d : A) {j : ℕ} → to ≤ length l → k ≤ length l - from → to + k ≤ j
       → get_or (paste l to (drop from l) k) j d ≡ get_or l j d

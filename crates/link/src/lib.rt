@@ -20,6 +20,7 @@ const LAST_KIND: u64 = LAST as u64;
 pub struct Link {
     pub address: u16,
     pub tag: u8,
+    // A number and no `Kind`: a damaged table may hold any, and `in_range` has to see it.
     pub kind: u8,
 }
 
@@ -27,7 +28,7 @@ pub struct Link {
 pub fn is_address(address: u64) -> bool
     ensures { result ≡ is_address address }
 {
-    (FIRST_ADDRESS <= address) & (address <= LAST_ADDRESS)
+    (FIRST_ADDRESS..=LAST_ADDRESS).contains(&address)
 }
 
 impl Link {
@@ -43,11 +44,12 @@ impl Link {
     pub fn fits(address: u64, tag: u64, kind: u64) -> bool
         ensures { result ≡ in_range (link_of address tag kind) }
     {
-        is_address(address) & (tag <= LAST_TAG) & (kind <= LAST_KIND)
+        is_address(address) && tag <= LAST_TAG && kind <= LAST_KIND
     }
 
-    // The link of these numbers; what does not fit gives the link that no table holds.
-    #[tactic(auto, unfolding(crate::specs::Link::link_made))]
+    // The link of these numbers; what does not fit gives the link that no table holds. No Option: `link_made` stands in the
+    // promise of the panel's edits, which judge the table, 12, before the range, 1.
+    #[tactic(auto, unfolding(crate::specs::Link::link_made), using(crate::proofs::Ranges::range_reads))]
     pub fn made(address: u64, tag: u64, kind: u64) -> Link
         ensures { result ≡ link_made address tag kind }
     {
@@ -61,19 +63,23 @@ impl Link {
         }
     }
 
-    // Whether none of its numbers is past its last one; an address of 0 is let through.
+    // Whether none of its numbers is past its last one; an address of 0 is let through. By `&`, so that `clash` takes no branch.
     #[tactic(auto, unfolding(crate::specs::Link::is_below_ends))]
     pub fn below_ends(self) -> bool
         ensures { result ≡ is_below_ends self }
     {
-        (self.address as u64 <= LAST_ADDRESS)
-            & (self.tag as u64 <= LAST_TAG)
-            & (self.kind as u64 <= LAST_KIND)
+        (u64::from(self.address) <= LAST_ADDRESS)
+            & (u64::from(self.tag) <= LAST_TAG)
+            & (u64::from(self.kind) <= LAST_KIND)
     }
 
     pub fn in_range(self) -> bool
         ensures { result ≡ in_range self }
     {
-        Link::fits(self.address as u64, self.tag as u64, self.kind as u64)
+        Link::fits(
+            u64::from(self.address),
+            u64::from(self.tag),
+            u64::from(self.kind),
+        )
     }
 }

@@ -25,15 +25,16 @@ pub const UNUSED: u32 = 0;
 pub const NO_ADDRESS: u32 = ADDRESSES - 1;
 
 impl Link {
-    // The word of a link.
+    // The word of a link; below it is said why it is no `From`.
     #[tactic(auto, unfolding(crate::specs::Link::key_of))]
     pub fn word(self) -> u32
         ensures { result ≡ key_of self }
     {
-        (self.address as u32) * ADDRESSES + (self.tag as u32) * TAGS + (self.kind as u32)
+        u32::from(self.address) * ADDRESSES + u32::from(self.tag) * TAGS + u32::from(self.kind)
     }
 
-    // The link of a word, whether it is in range or not.
+    // The link of a word, whether it is in range or not. `word` and `of` are no `From`: `u32::from(link)` would not say that
+    // it gives the word of document 02.
     #[tactic(auto, unfolding(crate::specs::Link::of_word))]
     pub fn of(word: u32) -> Link
         ensures { result ≡ of_word word }
@@ -51,7 +52,7 @@ impl Link {
 pub fn tag_in(word: u32) -> u64
     ensures { result ≡ (of_word word).tag }
 {
-    (word / TAGS % TAGS) as u64
+    u64::from(word / TAGS % TAGS)
 }
 
 // The class of a word's kind.
@@ -72,5 +73,5 @@ pub fn clash(word: u32, last: u32, alike: bool) -> u32
     let above = last < word;
     let another = word / ADDRESSES != last / ADDRESSES;
     let fits = link.below_ends() & above & (another | alike);
-    !fits as u32
+    u32::from(!fits)
 }

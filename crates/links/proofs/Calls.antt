@@ -7,21 +7,25 @@ use mathlib.Core.Bool.{true, false, not}
 use mathlib.Core.List.{List, ◌∷◌}
 use lib.Dec.{leb}
 use borrow.Author.Tests.{lt-leb, leb-false, not-false}
+use Rattle.answers.specs.declared.Refusal.{Refusal}
+use Rattle.answers.specs.Numbers.{number_of, refused_on}
 use Rattle.answers.specs.Answers.{Check, refusal}
-use Rattle.answers.specs.Rules.{refused_by}
-use Rattle.answers.proofs.Refusals.{refused_by_lem, passed_by, all_passed, none_left}
-use Rattle.answers.proofs.Rules.{refuse}
+use Rattle.answers.proofs.Refusals.{passed_by, all_passed, none_left}
+use Rattle.answers.proofs.Rules.{refuse_with}
 use Rattle.link.specs.declared.Link.{Link}
-use Rattle.table.specs.Links.{Held}
+use Rattle.table.specs.declared.Table.{Table}
+use Rattle.table.specs.Links.{Held, held_of}
 use Rattle.link.specs.Link.{key_of, in_range}
 use Rattle.table.specs.Sound.{most, is_sound}
-use Rattle.links.specs.Edits.{is_in, other_class, TableRule, unsound, add_checks, edited}
+use Rattle.answers.proofs.Numbers.{some_number}
+use Rattle.links.specs.Edits.{is_in, other_class, TableRule, unsound, add_checks, edited, edited_of}
+
+-- an edit that its checks refuse hands the table back as it was
+pub edit_refused : (rule : TableRule) (t : Table) (r : Refusal) → number_of r ≡ refusal (rule.checks (held_of t) tt)
+    → edited_of (refused_on t r) ≡ edited rule (held_of t)
+edit_refused rule t r e = refuse_with rule (held_of t) tt (some_number r) (sym e)
 
 module _ (h : Held) where
-  -- a table that is not sound is refused by 12, whatever the edit
-  pub not_sound : (rule : TableRule) (own : List Check) → rule.checks h tt ≡ unsound h ∷ own → is_sound h ≡ false → refused_by 12 h tt ≡ edited rule h
-  not_sound rule own is e = refuse rule h tt (ap refusal is ∙ refused_by_lem (not (is_sound h)) 12 own (ap not e))
-
   -- of a sound one the edit's own checks decide
   pub own_checks : (own : List Check) → is_sound h ≡ true → refusal (unsound h ∷ own) ≡ refusal own
   own_checks own e = passed_by (not (is_sound h)) 12 own (ap not e)

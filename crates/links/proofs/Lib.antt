@@ -3,6 +3,7 @@ pub mod Places
 pub mod Classes
 pub mod Shifts
 pub mod Calls
+pub mod Stands
 pub mod Leaves
 pub mod Afresh
 pub mod Untouched

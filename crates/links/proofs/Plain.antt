@@ -2,6 +2,8 @@
 -- Assumes nothing.
 use mathlib.Core.Path.{◌≡◌}
 use mathlib.Core.List.{List}
+use Rattle.answers.specs.declared.Answered.{Answered}
+use Rattle.answers.specs.Numbers.{answer_of, count_of}
 use Rattle.answers.specs.Rules.{Result}
 use Rattle.answers.specs.Runs.{Turn, Allows, Ran, SameOutcome, SameRun}
 use Rattle.answers.proofs.Runs as runs
@@ -9,7 +11,6 @@ use Rattle.table.specs.declared.Table.{Table}
 use Rattle.table.specs.Links.{Held, held_of}
 use Rattle.table.specs.Plain.{Plain, plain_held, Words, Links, Same}
 use Rattle.table.proofs.Plain.{same_held, held_same}
-use Rattle.links.specs.declared.Edited.{Edited}
 use Rattle.links.specs.Edits.{TableRule, edited, edited_of}
 
 -- every edit: any outcome that the promise allows now against any that it allowed then
@@ -23,6 +24,6 @@ pub same_edits : (turns : List (Turn Held (Unit {0}))) (t : Table) (p : Plain) �
 same_edits = runs.same_run_lem held_of plain_held Words Links Same same_held held_same
 
 -- what an edit promises is such an outcome
-pub edit_allows : (rule : TableRule) (t : Table) (r : Edited) → Words r.table → edited_of r ≡ edited rule (held_of t)
-    → Allows held_of Words (record { rule = rule; cells = tt }) t (record { answer = r.answer; count = r.moved; second = 0; leaves = r.table; cells = tt })
+pub edit_allows : (rule : TableRule) (t : Table) (r : Answered Table) → Words r.state → edited_of r ≡ edited rule (held_of t)
+    → Allows held_of Words (record { rule = rule; cells = tt }) t (record { answer = answer_of r.outcome; count = count_of r.outcome; second = 0; leaves = r.state; cells = tt })
 edit_allows rule t r whole promise = record { outcome = promise; whole = whole }

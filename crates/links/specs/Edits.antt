@@ -4,12 +4,14 @@
 use Rattle.std.specs.Prelude.{ℕ, ◌+◌, Bool, false, cond, not, ◌&&◌, ◌||◌, eqb, ltb, leb}
 use mathlib.Core.List.{List, [], ◌∷◌, tail}
 use Rattle.laws.specs.Kept.{kept}
+use Rattle.answers.specs.declared.Answered.{Answered}
 use Rattle.answers.specs.Answers.{Check}
+use Rattle.answers.specs.Numbers.{answer_of, count_of}
 use Rattle.answers.specs.Rules.{Rule, Result, carried, edit}
 use Rattle.kinds.specs.Kinds.{class_of}
 use Rattle.link.specs.declared.Link.{Link}
 use Rattle.link.specs.Link.{in_range, key_of}
-use Rattle.links.specs.declared.Edited.{Edited}
+use Rattle.table.specs.declared.Table.{Table}
 use Rattle.table.specs.Links.{Held, held_of, holding, address_class}
 use Rattle.table.specs.Sound.{is_sound, most}
 
@@ -117,5 +119,5 @@ table_drop tag = edit (λ h. unsound h ∷ []) (tag_moved tag) (λ h. holding (t
 abbrev pub edited : TableRule → Held → Result Held (Unit {0})
 edited rule h = carried rule h tt
 
-abbrev pub edited_of : Edited → Result Held (Unit {0})
-edited_of r = record { answer = r.answer; count = r.moved; second = 0; leaves = held_of r.table; cells = tt }
+abbrev pub edited_of : Answered Table → Result Held (Unit {0})
+edited_of r = record { answer = answer_of r.outcome; count = count_of r.outcome; second = 0; leaves = held_of r.state; cells = tt }

@@ -1,2 +1,3 @@
 pub mod Edits
 pub mod Afresh
+pub mod Search

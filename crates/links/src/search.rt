@@ -1,49 +1,42 @@
 // What the search in a table tells of a link: whether it is there, and whether its address has another class. Both may be
-// asked of a sound table only.
+// asked of a sound table only. There is no type for such a table: tried with this as its ghost field, the proofs lacked the
+// length of the words behind its reference.
 
 ghost use Rattle.std.specs.Prelude.{◌≡◌, true};
-ghost use Rattle.link.specs.Link.{key_of};
-ghost use Rattle.table.specs.Links.{rank, held_of};
+ghost use Rattle.table.specs.Links.{held_of};
 ghost use Rattle.table.specs.Sound.{is_sound};
-ghost use Rattle.links.specs.Edits.{is_in, other_class};
+ghost use Rattle.links.specs.Edits.{other_class};
+ghost use Rattle.links.specs.Search.{Found};
 
 use link::Link;
 use link::words::{ADDRESS_STEP, class_in};
 use table::Table;
-use table::search::below;
 
-// Whether a link stands at the place where the search for it ended.
-pub(crate) fn holds(table: Table, link: Link, place: usize) -> bool
-    requires table_value { is_sound (held_of table) ≡ true }
-    requires place_value { place ≡ rank key_of (key_of link) (held_of table).links }
-    ensures { result ≡ is_in key_of link (held_of table).links }
+// The place of a link, or the one where it would stand.
+#[tactic(auto, using(table::proofs::Stores::few))]
+pub(crate) fn find(table: &Table, link: Link) -> Result<usize, usize>
+    requires { is_sound (held_of table.now) ≡ true }
+    ensures { Found link (held_of table.now).links result }
 {
-    let count = table.count;
-    if count <= place {
-        return false;
+    let word = link.word();
+    let place = table.below(u64::from(word));
+    if place < table.count && table.words[place] == word {
+        Ok(place)
+    } else {
+        Err(place)
     }
-    let here = table.words[place];
-    here == link.word()
 }
 
 // Whether the address of a link has another class: that of the first link that is not below the address, if it has it.
-pub(crate) fn other_class(table: Table, link: Link) -> bool
-    requires { is_sound (held_of table) ≡ true }
-    ensures { result ≡ other_class link (held_of table).links }
+#[tactic(auto, using(table::proofs::Stores::few, crate::proofs::Stands::another_address))]
+pub(crate) fn other_class(table: &Table, link: Link) -> bool
+    requires { is_sound (held_of table.now) ≡ true }
+    ensures { result ≡ other_class link (held_of table.now).links }
 {
-    let start = below(
-        &table.words,
-        table.count,
-        link.address as u64 * ADDRESS_STEP,
-    );
-    let count = table.count;
-    if count <= start {
+    let start = table.below(u64::from(link.address) * ADDRESS_STEP);
+    if table.count <= start {
         return false;
     }
     let word = table.words[start];
-    let first = Link::of(word);
-    if first.address != link.address {
-        return false;
-    }
-    class_in(word) != class_in(link.word())
+    Link::of(word).address == link.address && class_in(word) != class_in(link.word())
 }

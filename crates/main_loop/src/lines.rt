@@ -1,22 +1,20 @@
 // What is written of an event: its answer, the reports and the motors that run.
-use crate::OFF;
-use outputs::NO_REPORT;
 use std::io::Print;
 
-pub(crate) fn write_report<R: Print>(rt: &R, tag: u64, report: u16) {
-    if report != NO_REPORT {
-        write_field(rt, b" report ", tag);
-        write_field(rt, b"=", report as u64);
+// The place of each cell that is not idle, and what stands in it.
+pub(crate) fn write_cells<R: Print, T: Copy + PartialEq>(rt: &R, name: &[u8], cells: &[T], idle: T)
+where
+    u64: From<T>,
+{
+    for (place, cell) in cells.iter().enumerate() {
+        if *cell != idle {
+            write_field(rt, name, place as u64);
+            write_field(rt, b"=", u64::from(*cell));
+        }
     }
 }
 
-pub(crate) fn write_motor<R: Print>(rt: &R, terminal: u64, motor: u8) {
-    if motor != OFF {
-        write_field(rt, b" motor ", terminal);
-        write_field(rt, b"=", motor as u64);
-    }
-}
-
+// The program workloads has these two lines too: no crate below both is about output, and one for two lines is no plainer.
 pub(crate) fn write_field<R: Print>(rt: &R, name: &[u8], value: u64) {
     let _ = rt.write_all(name);
     let _ = rt.print(value);

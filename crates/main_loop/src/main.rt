@@ -3,13 +3,12 @@
 
 mod lines;
 
-use answers::DONE;
+use answers::Answered;
 use installs::install;
-use kinds::{MUD, WA};
-use lines::{end_line, write_field, write_motor, write_report};
+use kinds::Kind;
+use lines::{end_line, write_cells, write_field};
 use outputs::NO_REPORT;
 use panel::Panel;
-use panel::calls::Answered;
 use params::Asked;
 use readings::strips::strip;
 use std::io::Print;
@@ -26,15 +25,25 @@ enum Event {
     Time(u64),
 }
 
-const EVENTS: u64 = 8;
+// Stands for the bus and the clock of a device.
+const EVENTS: [Event; 8] = [
+    Event::Time(500),
+    Event::Telegram(300, 1),
+    Event::Time(20_000),
+    Event::Telegram(100, 1),
+    Event::Time(500),
+    Event::Telegram(300, 1),
+    Event::Telegram(301, 1),
+    Event::Time(60_000),
+];
 
 // A motor that is off.
-pub(crate) const OFF: u8 = 0;
+const OFF: u8 = 0;
 
 fn main(rt: HostRuntime) {
     let mut panel = fitted(&rt);
-    for place in 0..EVENTS {
-        panel = turn(&rt, panel, next_event(place));
+    for event in EVENTS {
+        panel = turn(&rt, panel, event);
     }
 }
 
@@ -47,36 +56,22 @@ fn fitted<R: Print>(rt: &R) -> Panel {
     };
     let one = accepted(rt, install(Panel::empty(), 0, 4, set));
     let two = accepted(rt, install(one, 1, 7, short));
-    let windy = linked(rt, two, 100, WA);
-    linked(rt, windy, 300, MUD)
+    let windy = linked(rt, two, 100, Kind::Wa);
+    linked(rt, windy, 300, Kind::Mud)
 }
 
-fn linked<R: Print>(rt: &R, panel: Panel, address: u64, kind: u8) -> Panel {
+fn linked<R: Print>(rt: &R, panel: Panel, address: u64, kind: Kind) -> Panel {
     let first = accepted(rt, add_link(panel, address, 0, kind as u64));
     accepted(rt, add_link(first, address, 1, kind as u64))
 }
 
 // An edit that is refused leaves the panel as it was; a device would tell whoever asked for it.
-fn accepted<R: Print>(rt: &R, done: Answered) -> Panel {
-    if done.answer != DONE {
-        write_field(rt, b"refused ", done.answer as u64);
+fn accepted<R: Print>(rt: &R, done: Answered<Panel>) -> Panel {
+    if let Err(refusal) = done.outcome {
+        write_field(rt, b"refused ", u64::from(u8::from(refusal)));
         end_line(rt);
     }
-    done.panel
-}
-
-// Stands for the bus and the clock of a device.
-fn next_event(place: u64) -> Event {
-    match place {
-        0 => Event::Time(500),
-        1 => Event::Telegram(300, 1),
-        2 => Event::Time(20_000),
-        3 => Event::Telegram(100, 1),
-        4 => Event::Time(500),
-        5 => Event::Telegram(300, 1),
-        6 => Event::Telegram(301, 1),
-        _ => Event::Time(60_000),
-    }
+    done.state
 }
 
 // One event and what comes of it. Refused calls leave the cells as they are here: nothing to report, every relay off.
@@ -84,16 +79,16 @@ fn turn<R: Print>(rt: &R, panel: Panel, event: Event) -> Panel {
     let mut reports = [NO_REPORT; CELLS];
     let mut motors = [OFF; STRIP];
     let heard = heed(panel, event, &mut reports);
-    write_field(rt, b"answer ", heard.answer as u64);
-    write_field(rt, b" count ", heard.count);
+    write_field(rt, b"answer ", u64::from(heard.number()));
+    write_field(rt, b" count ", heard.count());
     hand_on(rt, &reports);
-    let read = strip(heard.panel, &mut motors);
+    let read = strip(heard.state, &mut motors);
     drive(rt, &motors);
     end_line(rt);
-    read.panel
+    read.state
 }
 
-fn heed(panel: Panel, event: Event, reports: &mut [u16]) -> Answered {
+fn heed(panel: Panel, event: Event, reports: &mut [u16]) -> Answered<Panel> {
     match event {
         Event::Telegram(address, value) => telegram(panel, address, value, reports),
         Event::Time(dt) => time_step(panel, dt, reports),
@@ -102,14 +97,10 @@ fn heed(panel: Panel, event: Event, reports: &mut [u16]) -> Answered {
 
 // A device would send each report on the bus.
 fn hand_on<R: Print>(rt: &R, reports: &[u16]) {
-    for tag in 0..reports.len() {
-        write_report(rt, tag as u64, reports[tag]);
-    }
+    write_cells(rt, b" report ", reports, NO_REPORT);
 }
 
 // A device would set the relays of each terminal.
 fn drive<R: Print>(rt: &R, motors: &[u8]) {
-    for terminal in 0..motors.len() {
-        write_motor(rt, terminal as u64, motors[terminal]);
-    }
+    write_cells(rt, b" motor ", motors, OFF);
 }

@@ -10,10 +10,8 @@ use runs::Run;
 pub fn milliseconds(blind: Blind, dt: u64) -> Blind
     ensures { result ≡ milliseconds dt blind }
 {
-    let motion = blind.motion;
-    match motion {
-        Motion::Off(rest) => one_by_one(blind, dt),
-        Motion::Waits(rest, run) => one_by_one(blind, dt),
+    match blind.motion {
+        Motion::Off(_) | Motion::Waits(_, _) => one_by_one(blind, dt),
         Motion::Runs(run) => run_on(blind, run, dt),
     }
 }
@@ -29,15 +27,13 @@ fn one_by_one(mut blind: Blind, dt: u64) -> Blind
 }
 
 // Until its last millisecond a run changes the place and its length alone, so only these are worked on.
-
-#[tactic(auto, using(crate::proofs::AtOnce::whole_at_once), unfolding(runs::specs::Millisecond::shorter))]
+#[tactic(auto, using(crate::proofs::AtOnce::whole), unfolding(runs::specs::Millisecond::shorter))]
 fn run_on(blind: Blind, run: Run, dt: u64) -> Blind
     requires { blind.motion ≡ Motion.Runs run }
     ensures { result ≡ milliseconds dt blind }
 {
-    let direction = run.direction;
     let smooth = run.before_last(dt);
-    let place = blind.place.after(smooth, direction, blind.params);
+    let place = blind.place.after(smooth, run.direction, blind.params);
     let shorter = Run {
         length: run.length - smooth,
         ..run
@@ -48,8 +44,5 @@ fn run_on(blind: Blind, run: Run, dt: u64) -> Blind
         ..blind
     };
     let rest = dt - smooth as u64;
-    if rest == 0 {
-        return moved;
-    }
     one_by_one(moved, rest)
 }

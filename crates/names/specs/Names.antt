@@ -1,6 +1,6 @@
 -- The command language, its names: "the first word is the command, in small letters and exactly".
 -- Assumes nothing.
-use Rattle.std.specs.Prelude.{ℕ, ◌+◌, Bool, true, false, cond, ◌||◌, List, [], ◌∷◌, eqb}
+use Rattle.std.specs.Prelude.{ℕ, ◌+◌, Bool, cond, ◌||◌, Option, Some, None, List, [], ◌∷◌, eqb}
 use Prim.Native.String.{String}
 use Rattle.params.specs.Numbers.{set_size}
 use Rattle.texts.specs.Text.{text, same}
@@ -9,11 +9,11 @@ use Rattle.names.specs.declared.Entry.{Entry}
 
 -- A command, how many arguments it takes, and how many more may follow, all or none of them: "[MUDT SST RPT RWA RRA RFA]".
 abbrev pub taking : Name → ℕ → ℕ → Entry
-taking name plain more = record { known = true; name = name; plain = plain; more = more }
+taking name plain more = record { name = name; plain = plain; more = more }
 
--- No command; which one stands there says nothing.
-abbrev pub unknown : Entry
-unknown = record { known = false; name = Name.New; plain = 0; more = 0 }
+-- No command.
+abbrev pub unknown : Option Entry
+unknown = None
 
 -- The commands by their words.
 abbrev pub table : List (String × Entry)
@@ -37,15 +37,15 @@ table =
     ∷ []
 
 -- The entry of some letters if the word is these, and otherwise another.
-unfoldable pub entry_for : List ℕ → List ℕ → Entry → Entry → Entry
-entry_for word letters own otherwise = cond (same word letters) own otherwise
+unfoldable pub entry_for : List ℕ → List ℕ → Entry → Option Entry → Option Entry
+entry_for word letters own otherwise = cond (same word letters) (Some own) otherwise
 
 -- What a word is in a table of commands.
-unfoldable pub entry_in : List (String × Entry) → List ℕ → Entry
+unfoldable pub entry_in : List (String × Entry) → List ℕ → Option Entry
 entry_in [] word = unknown
 entry_in (row ∷ rows) word = entry_for word (text row.0) row.1 (entry_in rows word)
 
-unfoldable pub entry_of : List ℕ → Entry
+unfoldable pub entry_of : List ℕ → Option Entry
 entry_of = entry_in table
 
 -- Whether a command takes this number of arguments.

@@ -5,16 +5,17 @@
 mod limits;
 
 use crate::limits::{LIMITS, full_table};
-use rows::{least, line_end, place_of};
+use rows::line_end;
 use scripts::holds;
+use std::io;
 use std::io::Write;
-use texts::put_text;
+use texts::Sheet;
 
 // A case begins with this mark and its name; its script goes on to the next mark.
 const MARK: u8 = b'@';
 
-// The size of the row in which a script is written, and of the sheet for its answers.
-const BUFFER: usize = 65_536;
+// The size of the row in which a script is written, and of that for its answers.
+pub(crate) const BUFFER: usize = 65_536;
 
 const WORKED: [u8; 5059] = *b"@W1
 # MUD 0, then 499 ms: off. 1 ms more: up.
@@ -161,80 +162,54 @@ link 107 5 7 = 0 0
 // Runs all cases. The blind of the cases is installed by this line, so that a wrong build can be tried too. Where a line
 // of the cases cannot be written, that is said in these words.
 pub fn write<O: Write, E: Write>(out: &mut O, err: &mut E, install: &[u8], failure: &[u8]) {
-    let mut row = [0u8; BUFFER];
-    let mut sheet = [0u8; BUFFER];
-    if !run_all(out, install, &mut row, &mut sheet) {
+    if run_all(out, install).is_err() {
         let _ = err.write_all(failure);
     }
 }
 
-// Hands back whether the lines went through; the first that does not is the last.
-fn run_all<O: Write>(out: &mut O, install: &[u8], row: &mut [u8], sheet: &mut [u8]) -> bool {
-    if !run(out, &WORKED, install, row, sheet) {
-        return false;
-    }
-    if !full_table(out, install, row, sheet) {
-        return false;
-    }
-    run(out, &LIMITS, install, row, sheet)
+// The first line that does not go through is the last.
+fn run_all<O: Write>(out: &mut O, install: &[u8]) -> io::Result<()> {
+    run(out, &WORKED, install)?;
+    full_table(out, install)?;
+    run(out, &LIMITS, install)
 }
 
 // The cases of a text one after the other.
-#[tactic(auto, using(rows::proofs::NextLine::place_within))]
-fn run<O: Write>(
-    out: &mut O,
-    cases: &[u8],
-    install: &[u8],
-    row: &mut [u8],
-    sheet: &mut [u8],
-) -> bool {
-    let mut start = 0;
-    while start < cases.len() {
-        let end = place_of(MARK, cases, start + 1);
-        if !case(out, &cases[start + 1..end], install, row, sheet) {
-            return false;
-        }
-        start = end;
+fn run<O: Write>(out: &mut O, cases: &[u8], install: &[u8]) -> io::Result<()> {
+    for text in cases.split(|byte| *byte == MARK).skip(1) {
+        case(out, text, install)?;
     }
-    true
+    Ok(())
 }
 
-// A case: what it starts from and its own script are written into the row, and then carried out.
-fn case<O: Write>(
-    out: &mut O,
-    text: &[u8],
-    install: &[u8],
-    row: &mut [u8],
-    sheet: &mut [u8],
-) -> bool {
-    let named = line_end(text, 0);
-    let fresh = put_fresh(row, install);
-    let end = put_text(row, fresh, &text[named..]);
-    judge(out, &text[..named], row, end, sheet)
+// A case: what it starts from and its own script are written into a row, and then carried out.
+fn case<O: Write>(out: &mut O, text: &[u8], install: &[u8]) -> io::Result<()> {
+    let mut row = [0u8; BUFFER];
+    let mut script = Sheet {
+        bytes: &mut row,
+        at: 0,
+    };
+    let (name, lines) = text.split_at(line_end(text, 0));
+    put_fresh(&mut script, install);
+    script.put_text(lines);
+    judge(out, name, &script)
 }
 
 // The blind as it is installed, with its links.
-pub(crate) fn put_fresh(row: &mut [u8], install: &[u8]) -> usize {
-    let bare = put_text(row, 0, install);
-    put_text(row, bare, &FRESH)
+pub(crate) fn put_fresh(script: &mut Sheet<'_>, install: &[u8]) {
+    script.put_text(install);
+    script.put_text(&FRESH);
 }
 
-// The line of a case, whose script ends here in the row.
-pub(crate) fn judge<O: Write>(
-    out: &mut O,
-    name: &[u8],
-    row: &[u8],
-    end: usize,
-    sheet: &mut [u8],
-) -> bool {
-    let length = least(end, row.len());
-    let same = holds(&row[..length], sheet);
-    if out.write_all(name).is_err() {
-        return false;
-    }
+// The line of a case with this script.
+pub(crate) fn judge<O: Write>(out: &mut O, name: &[u8], script: &Sheet<'_>) -> io::Result<()> {
+    let mut answers = [0u8; BUFFER];
+    let length = script.at.min(script.bytes.len());
+    let same = holds(&script.bytes[..length], &mut answers);
+    out.write_all(name)?;
     if same {
-        out.write_all(b"\tsame\n").is_ok()
+        out.write_all(b"\tsame\n")
     } else {
-        out.write_all(b"\tdiffers\n").is_ok()
+        out.write_all(b"\tdiffers\n")
     }
 }

@@ -1,13 +1,13 @@
 // Document 01, "Cases by number": R1 to R3, run by the program only: how many links, how long a time step, and a command
 // that is taken back in the same telegram.
-ghost use Rattle.std.specs.Prelude.{◌≡◌};
-ghost use Rattle.texts.specs.Sheet.{sheet, puts};
+ghost use Rattle.texts.specs.Lent.{Puts};
 ghost use Rattle.numbered.specs.Limits.{link_line, link_lines};
 
-use crate::{judge, put_fresh};
+use crate::{BUFFER, judge, put_fresh};
 use decimals::put_number;
+use std::io;
 use std::io::Write;
-use texts::put_text;
+use texts::Sheet;
 
 pub(crate) const LIMITS: [u8; 790] = *b"@R2
 # dt 60,000 answers 0 and 60,001 answers 1.
@@ -37,35 +37,33 @@ link 1513 5 4 = 0 0
 link 1514 5 4 = 7 0
 ";
 
-pub(crate) fn full_table<O: Write>(
-    out: &mut O,
-    install: &[u8],
-    row: &mut [u8],
-    sheet: &mut [u8],
-) -> bool {
-    let fresh = put_fresh(row, install);
-    let nearly = put_links(row, fresh);
-    let end = put_text(row, nearly, &FULL_TABLE);
-    judge(out, b"R1", row, end, sheet)
+pub(crate) fn full_table<O: Write>(out: &mut O, install: &[u8]) -> io::Result<()> {
+    let mut row = [0u8; BUFFER];
+    let mut script = Sheet {
+        bytes: &mut row,
+        at: 0,
+    };
+    put_fresh(&mut script, install);
+    put_links(&mut script);
+    script.put_text(&FULL_TABLE);
+    judge(out, b"R1", &script)
 }
 
 // The script of links 9 to 511; eight are there already.
-#[tactic(auto, using(texts::proofs::Sheet::each_none, texts::proofs::Sheet::each_turn, texts::proofs::Sheet::each_all))]
-fn put_links(row: &mut [u8], from: usize) -> usize
-    ensures { sheet row.new result ≡ puts link_lines (sheet row.old from) }
+#[tactic(auto, using(texts::proofs::Sheets::each_none, texts::proofs::Sheets::each_more, texts::proofs::Sheets::each_all))]
+fn put_links(script: &mut Sheet<'_>)
+    ensures { Puts link_lines script.old script.new }
 {
-    let mut at = from;
-    for address in 1009..1512 {
-        at = put_link(row, at, address);
+    for place in 0..503 {
+        put_link(script, 1009 + place);
     }
-    at
 }
 
-fn put_link(row: &mut [u8], at: usize, address: u64) -> usize
-    ensures { sheet row.new result ≡ puts (link_line address) (sheet row.old at) }
+fn put_link(script: &mut Sheet<'_>, address: u64)
+    ensures { Puts (link_line address) script.old script.new }
 {
-    let command = put_text(row, at, b"link ");
-    let number = put_number(row, command, address);
-    let expected = put_text(row, number, b" 5 4 = 0 0");
-    put_text(row, expected, b"\n")
+    script.put_text(b"link ");
+    put_number(script, address);
+    script.put_text(b" 5 4 = 0 0");
+    script.put(b'\n');
 }

@@ -7,20 +7,18 @@ ghost use Rattle.outputs.specs.Reports.{command, motor_of, active, busy, no_repo
 
 use blind::{Blind, Motion};
 use heights::Direction;
-use runs::Run;
 
-// What a cell holds where a blind has nothing to report.
+// What a cell holds where a blind has nothing to report: a number like the motor commands below, since document 01,
+// "Reports and strip", fixes what the cells hold.
 pub const NO_REPORT: u16 = 512;
 
 #[tactic(auto, unfolding(crate::specs::Reports::motor_of))]
 pub fn motor(blind: Blind) -> u8
     ensures { result ≡ motor_of blind }
 {
-    let motion = blind.motion;
-    match motion {
-        Motion::Off(_) => 0,
-        Motion::Waits(_, _) => 0,
-        Motion::Runs(run) => command(run),
+    match blind.motion {
+        Motion::Off(_) | Motion::Waits(_, _) => 0,
+        Motion::Runs(run) => command(run.direction),
     }
 }
 
@@ -28,11 +26,9 @@ pub fn motor(blind: Blind) -> u8
 pub fn is_busy(blind: Blind) -> bool
     ensures { result ≡ busy blind }
 {
-    let motion = blind.motion;
-    match motion {
+    match blind.motion {
         Motion::Off(rest) => 0 < rest,
-        Motion::Waits(_, _) => true,
-        Motion::Runs(_) => true,
+        Motion::Waits(_, _) | Motion::Runs(_) => true,
     }
 }
 
@@ -41,21 +37,19 @@ pub fn is_busy(blind: Blind) -> bool
 pub fn report(before: Blind, after: Blind) -> u64
     ensures { result ≡ report before after }
 {
-    if !is_active(before) {
-        return NO_REPORT as u64;
-    }
-    if is_active(after) {
-        NO_REPORT as u64
-    } else {
+    if is_active(before) && !is_active(after) {
         after.place.told(after.params)
+    } else {
+        u64::from(NO_REPORT)
     }
 }
 
-// The cell of a tag after a call. A tag without a blind has nothing to report.
+// The cell of a tag after a call. A tag without a blind has nothing to report. `there` stands beside the blinds, since
+// a panel has a place for a blind at every tag and says by one bit of its word whether it counts.
 pub fn cell(there: bool, before: Blind, after: Blind) -> u64
     ensures { result ≡ cond there (report before after) no_report }
 {
-    let none = NO_REPORT as u64;
+    let none = u64::from(NO_REPORT);
     if there { report(before, after) } else { none }
 }
 
@@ -64,18 +58,12 @@ pub fn cell(there: bool, before: Blind, after: Blind) -> u64
 pub fn is_active(blind: Blind) -> bool
     ensures { result ≡ active blind }
 {
-    let motion = blind.motion;
-    match motion {
-        Motion::Off(_) => false,
-        Motion::Waits(_, _) => true,
-        Motion::Runs(_) => true,
-    }
+    !matches!(blind.motion, Motion::Off(_))
 }
 
-fn command(run: Run) -> u8
-    ensures { result ≡ command run.direction }
+fn command(direction: Direction) -> u8
+    ensures { result ≡ command direction }
 {
-    let direction = run.direction;
     match direction {
         Direction::Up => 1,
         Direction::Down => 2,

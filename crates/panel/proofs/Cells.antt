@@ -1,14 +1,15 @@
 -- The cells that telegrams and time steps fill: what is written at each place is the cell of its tag, and it fits.
 -- Assumes nothing.
-use Prim.Native.Nat.{ℕ, ◌≤◌, ◌<◌}
+use Prim.Native.Nat.{ℕ, zero, suc, ◌≤◌, ◌<◌}
 use native.Mathlib.Nat.{le_refl}
 use native.Mathlib.Omega.{arith}
-use mathlib.Core.Path.{◌≡◌, ap, ap₂, ◌∙◌}
+use mathlib.Core.Path.{◌≡◌, refl, ap, ap₂, ◌∙◌}
 use mathlib.Core.Bool.{Bool, true, cond, not, ◌&&◌}
-use mathlib.Core.List.{List}
+use mathlib.Core.List.{List, ◌∷◌}
+use Rattle.std.specs.Prelude.{replicate}
 use mathlib.Core.Option.{some}
 use lib.ListN.{length, get_or}
-use Rattle.laws.specs.Fills.{filled}
+use Rattle.laws.specs.Fills.{tabulate, filled}
 use Rattle.laws.proofs.Choices.{cond_has}
 use Rattle.laws.proofs.Fills.{filled_all, tabulate_same, tabulate_at}
 use Rattle.tags.specs.Tags.{places}
@@ -17,8 +18,15 @@ use Rattle.heights.specs.Heights.{told}
 use Rattle.heights.proofs.Told.{told_most}
 use Rattle.outputs.specs.Reports.{active, no_report, report}
 use Rattle.sound_blind.specs.Sound as ofBlind
-use Rattle.panel.specs.Panel.{Seat, Model}
+use Rattle.panel.specs.declared.Seat.{Seat}
+use Rattle.panel.specs.Panel.{Model}
 use Rattle.panel.specs.Reports.{cell, reports}
+
+-- as many times the same
+pub all_alike : {A : Type 0} (n : ℕ) (x : A) → replicate n x ≡ tabulate n (λ k. x)
+unfolding tabulate
+all_alike zero x = refl
+all_alike (suc n) x = ap (λ l. x ∷ l) (all_alike n x)
 
 -- what a sound blind reports is at most 512
 pub report_most : (before after : Blind) → ofBlind.Sound after → report before after ≤ no_report

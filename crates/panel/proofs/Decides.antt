@@ -13,14 +13,13 @@ use Rattle.tags.specs.Tags.{TagSet, places, tags_of}
 use Rattle.sound_blind.specs.Sound as ofBlind
 use Rattle.sound_blind.proofs.Decides.{sound_decides as blind-decides}
 use Rattle.link.specs.Link.{nothing}
-use Rattle.table.specs.declared.Table.{Table}
 use Rattle.table.specs.Sound as ofLinks
 use Rattle.table.specs.Links.{Held, held_of}
 use Rattle.table.proofs.Stores.{many}
 use Rattle.table.proofs.Sound.{sound_decided}
 use Rattle.panel.specs.declared.Panel.{Panel}
-use Rattle.panel.specs.Panel.{Seat, Model, model_of, present_in}
-use Rattle.panel.specs.Fields.{panel_of}
+use Rattle.panel.specs.declared.Seat.{Seat}
+use Rattle.panel.specs.Panel.{Model, model_of, present_in}
 use Rattle.panel.specs.Sound.{Tagged, Sound, Fine, seats_in, sound_seat, sound_seats, all_named, is_sound}
 use Rattle.panel.proofs.Seats.{panel_tagged, present_tags}
 
@@ -45,12 +44,12 @@ module _ (m : Model) where
   table_sound e = both_left (ofLinks.is_sound m.table) (all_named (present_in m) m.table.links && sound_seats m) e
 
 -- the seats judged first, and then the links: together they are the test
-pub parts_decide : (p : Panel) {seats r : Bool} → ((table : Table) → seats ≡ sound_seats (model_of (panel_of p.present p.terminals p.blinds table)))
+pub parts_decide : (p : Panel) {seats r : Bool} → seats ≡ sound_seats (model_of p)
     → r ≡ seats && (ofLinks.is_sound (held_of p.table) && all_named (tags_of p.present) (held_of p.table).links) → r ≡ is_sound (model_of p)
 unfolding is_sound
 parts_decide p {seats} {r} e f =
     f ∙ last seats (ofLinks.is_sound (held_of p.table)) (all_named (tags_of p.present) (held_of p.table).links)
-    ∙ ap₂ (λ (s : TagSet) (b : Bool). ofLinks.is_sound (held_of p.table) && (all_named s (held_of p.table).links && b)) (sym (present_tags p)) (e p.table)
+    ∙ ap₂ (λ (s : TagSet) (b : Bool). ofLinks.is_sound (held_of p.table) && (all_named s (held_of p.table).links && b)) (sym (present_tags p)) e
   where
     last : (s l n : Bool) → s && (l && n) ≡ l && (n && s)
     last true l n = ap (λ (b : Bool). l && b) (sym (and-true n))

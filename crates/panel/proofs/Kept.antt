@@ -12,7 +12,8 @@ use Rattle.sound_blind.specs.Sound as ofBlind
 use Rattle.table.specs.Links.{Held}
 use Rattle.link.specs.Link.{nothing}
 use Rattle.table.specs.Sound as ofLinks
-use Rattle.panel.specs.Panel.{Seat, Model, is_there, present_in, bare, reseated, each_seat, relinked}
+use Rattle.panel.specs.declared.Seat.{Seat}
+use Rattle.panel.specs.Panel.{Model, is_there, present_in, bare, reseated, each_seat, relinked}
 use Rattle.panel.specs.Sound.{Sound}
 use Rattle.panel.proofs.Seats.{reseated_at, reseated_other}
 

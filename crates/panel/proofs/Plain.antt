@@ -5,13 +5,14 @@ use mathlib.Core.Path.{◌≡◌, refl, ap, fun_ext}
 use mathlib.Core.Bool.{false}
 use mathlib.Core.List.{List}
 use lib.ListN.{get_or}
+use Rattle.answers.specs.declared.Answered.{Answered}
+use Rattle.answers.specs.Numbers.{answer_of, count_of}
 use Rattle.answers.specs.Rules.{Result}
 use Rattle.answers.specs.Runs.{Turn, Allows, Ran, SameOutcome, SameRun}
 use Rattle.answers.proofs.Runs as runs
 use Rattle.table.proofs.Plain.{same_held, held_same, packed_words, packed_same, untidy}
 use Rattle.link.specs.Link.{nothing, Fits}
 use Rattle.panel.specs.declared.Panel.{Panel}
-use Rattle.panel.specs.declared.calls.Answered.{Answered}
 use Rattle.panel.specs.Panel.{Model, seats_of, model_of}
 use Rattle.panel.specs.Sound.{is_sound}
 use Rattle.panel.specs.Calls.{Cells, CallRule, Does}
@@ -40,8 +41,8 @@ pub same_run_lem : (turns : List (Turn Model Cells)) (p : Panel) (q : PlainPanel
 same_run_lem = runs.same_run_lem model_of plain_model Words Links SamePanel same_models models_same
 
 -- what a call of the panel promises is such an outcome
-pub does_allows : (rule : CallRule) (panel : Panel) (entry : Cells) (r : Answered) (exit : Cells) → Words r.panel → Does rule panel entry r exit
-    → Allows model_of Words (record { rule = rule; cells = entry }) panel (record { answer = r.answer; count = r.count; second = 0; leaves = r.panel; cells = exit })
+pub does_allows : (rule : CallRule) (panel : Panel) (entry : Cells) (r : Answered Panel) (exit : Cells) → Words r.state → Does rule panel entry r exit
+    → Allows model_of Words (record { rule = rule; cells = entry }) panel (record { answer = answer_of r.outcome; count = count_of r.outcome; second = 0; leaves = r.state; cells = exit })
 does_allows rule panel entry r exit whole does = record { outcome = does.outcome; whole = whole }
 
 -- every old panel has one of words that is the same

@@ -7,18 +7,20 @@ use mathlib.Core.Path.{◌≡◌, refl, sym, ap, ap₂, ◌∙◌, fun_ext}
 use mathlib.Core.Bool.{Bool, true, false, cond, not, ◌&&◌, ◌||◌, true≢false}
 use mathlib.Core.List.{List}
 use mathlib.Core.Option.{Option, none, some, map, none-ne-some}
+use Rattle.std.specs.Prelude.{Some, None}
+use Rattle.std.specs.Prelude as prelude
 use lib.ListN.{length, get_or, set}
 use lib.Seq.{get_or-set_same, get_or-set_other}
 use lib.Dec.{eqb, ltb}
 use borrow.Author.Tests.{eq-eqb, ne_eqb, eqb-true, eqb-false, lt-ltb}
-use Rattle.blind.specs.declared.Blind.{Blind}
 use Rattle.tags.specs.declared.Tags.{Tags}
 use Rattle.tags.specs.Tags.{TagSet, places, tags_of, put, taken}
 use Rattle.tags.proofs.Members.{member_past}
 use Rattle.table.specs.Links.{Held}
 use Rattle.panel.specs.declared.Panel.{Panel}
-use Rattle.panel.specs.Panel.{Seat, Model, nobody, place_of, seats_of, model_of, is_there, present_in, reseated, each_seat}
-use Rattle.panel.specs.Fields.{with_present, with_terminals, with_blinds}
+use Rattle.panel.specs.declared.Seat.{Seat}
+use Rattle.panel.specs.Panel.{Model, vacant, place_of, seats_of, seat_at, found, model_of, is_there, present_in, reseated, each_seat}
+use Rattle.panel.specs.Fields.{with_present, with_seats}
 use Rattle.panel.specs.Sound.{Tagged}
 
 -- ---- models
@@ -50,6 +52,14 @@ module _ (rule : ℕ → Seat → Seat) (m : Model) where
 
 -- ---- the seats of a panel
 
+-- "tags 0 to 63": every tag of a set is one of them
+pub low_tag : (present : Tags) (tag : ℕ) → present.word < 2 ^ 64 → tags_of present tag ≡ true → tag < places
+low_tag present tag fits there = go (dec_lt tag places)
+  where
+    go : Dec (tag < places) → tag < places
+    go (yes h) = h
+    go (no h) = absurd (true≢false (sym there ∙ member_past 64 present.word tag fits (omega arith)))
+
 module _ (p : Panel) where
   -- a present tag has the seat that stands at its place
   pub seat_present : (tag : ℕ) → tags_of p.present tag ≡ true → seats_of p tag ≡ some (place_of p tag)
@@ -60,6 +70,23 @@ module _ (p : Panel) where
   pub seat_absent : (tag : ℕ) → tags_of p.present tag ≡ false → seats_of p tag ≡ none
   unfolding seats_of
   seat_absent tag e = rw e
+
+  -- what a program is told of a tag
+  pub seat_found : (tag : ℕ) {told : prelude.Option Seat} → told ≡ seat_at p tag → found told ≡ seats_of p tag
+  unfolding seats_of
+  seat_found tag {told} e = ap found e ∙ go (tags_of p.present tag)
+    where
+      go : (b : Bool) → found (cond b (Some (place_of p tag)) None) ≡ cond b (some (place_of p tag)) none
+      go true = refl
+      go false = refl
+
+  -- it is told of a seat: the tag is there, and this stands at its place
+  pub seat_given : (tag : ℕ) {seat : Seat} → Some seat ≡ seat_at p tag → (tags_of p.present tag ≡ true) × (seat ≡ place_of p tag)
+  seat_given tag {seat} = go (tags_of p.present tag)
+    where
+      go : (b : Bool) → Some seat ≡ cond b (Some (place_of p tag)) None → (b ≡ true) × (seat ≡ place_of p tag)
+      go true e = (refl, cc)
+      go false e = cc
 
   -- the tags that have a seat are those of the presence word
   pub present_tags : present_in (model_of p) ≡ tags_of p.present
@@ -83,46 +110,33 @@ module _ (p : Panel) where
 
 -- ---- writing
 
--- the blind of a present tag
-pub blind_written : (p : Panel) (t : ℕ) (b : Blind) → tags_of p.present t ≡ true → t < length p.blinds
-    → model_of (with_blinds (set p.blinds t b) p)
-    ≡ reseated t (some (record { terminal = get_or p.terminals t 0; blind = b })) (model_of p)
+-- the seat of a present tag
+pub seat_written : (p : Panel) (t : ℕ) (seat : Seat) → tags_of p.present t ≡ true → t < length p.seats
+    → model_of (with_seats (set p.seats t seat) p) ≡ reseated t (some seat) (model_of p)
 unfolding seats_of reseated
-blind_written p t b present fits =
-    same_model (model_of (with_blinds (set p.blinds t b) p)) (reseated t (some (record { terminal = get_or p.terminals t 0; blind = b })) (model_of p))
-    (λ tag. go tag (eqb tag t) refl) refl
+seat_written p t seat present fits =
+    same_model (model_of (with_seats (set p.seats t seat) p)) (reseated t (some seat) (model_of p)) (λ tag. go tag (eqb tag t) refl) refl
   where
-    here : ℕ → Option Seat
-    here tag = some (record { terminal = get_or p.terminals tag 0; blind = get_or (set p.blinds t b) tag nobody })
-
     go : (tag : ℕ) (same : Bool) → eqb tag t ≡ same
-        → cond (tags_of p.present tag) (here tag) none
-        ≡ cond same (some (record { terminal = get_or p.terminals t 0; blind = b })) (seats_of p tag)
-    go tag true e = rw (eqb-true tag t e, present, get_or-set_same p.blinds t b nobody fits)
-    go tag false e = rw (get_or-set_other p.blinds t tag b nobody (eqb-false tag t e))
+        → cond (tags_of p.present tag) (some (get_or (set p.seats t seat) tag vacant)) none ≡ cond same (some seat) (seats_of p tag)
+    go tag true e = rw (eqb-true tag t e, present, get_or-set_same p.seats t seat vacant fits)
+    go tag false e = rw (get_or-set_other p.seats t tag seat vacant (eqb-false tag t e))
 
--- a tag is put in, with its terminal and its blind
-pub seat_put : (p : Panel) (present : Tags) (t terminal : ℕ) (b : Blind) → tags_of present ≡ put places t (tags_of p.present) → t < places
-    → t < length p.terminals → t < length p.blinds
-    → model_of (with_present present (with_terminals (set p.terminals t terminal) (with_blinds (set p.blinds t b) p)))
-    ≡ reseated t (some (record { terminal = terminal; blind = b })) (model_of p)
+-- a tag is put in, with its seat
+pub seat_put : (p : Panel) (present : Tags) (t : ℕ) (seat : Seat) → tags_of present ≡ put places t (tags_of p.present) → t < places
+    → t < length p.seats → model_of (with_present present (with_seats (set p.seats t seat) p)) ≡ reseated t (some seat) (model_of p)
 unfolding seats_of reseated put
-seat_put p present t terminal b word low fits-t fits-b =
-    same_model
-    (model_of (with_present present (with_terminals (set p.terminals t terminal) (with_blinds (set p.blinds t b) p))))
-    (reseated t (some (record { terminal = terminal; blind = b })) (model_of p))
+seat_put p present t seat word low fits =
+    same_model (model_of (with_present present (with_seats (set p.seats t seat) p))) (reseated t (some seat) (model_of p))
     (λ tag. ap (λ (s : TagSet). cond (s tag) (here tag) none) word ∙ go tag (eqb tag t) refl) refl
   where
     here : ℕ → Option Seat
-    here tag = some (record { terminal = get_or (set p.terminals t terminal) tag 0; blind = get_or (set p.blinds t b) tag nobody })
+    here tag = some (get_or (set p.seats t seat) tag vacant)
 
     go : (tag : ℕ) (same : Bool) → eqb tag t ≡ same
-        → cond ((same && ltb tag places) || tags_of p.present tag) (here tag) none
-        ≡ cond same (some (record { terminal = terminal; blind = b })) (seats_of p tag)
-    go tag true e =
-        rw (eqb-true tag t e, lt-ltb t places low, get_or-set_same p.terminals t terminal 0 fits-t, get_or-set_same p.blinds t b nobody fits-b)
-    go tag false e =
-        rw (get_or-set_other p.terminals t tag terminal 0 (eqb-false tag t e), get_or-set_other p.blinds t tag b nobody (eqb-false tag t e))
+        → cond ((same && ltb tag places) || tags_of p.present tag) (here tag) none ≡ cond same (some seat) (seats_of p tag)
+    go tag true e = rw (eqb-true tag t e, lt-ltb t places low, get_or-set_same p.seats t seat vacant fits)
+    go tag false e = rw (get_or-set_other p.seats t tag seat vacant (eqb-false tag t e))
 
 -- a tag is taken out
 pub seat_taken : (p : Panel) (present : Tags) (t : ℕ) → tags_of present ≡ taken t (tags_of p.present)
@@ -138,17 +152,15 @@ seat_taken p present t word =
     go tag false = refl
 
 -- every place is written anew, by a rule: it is enough that it holds of the present tags
-pub places_written : (p : Panel) (terminals : List ℕ) (blinds : List Blind) (rule : ℕ → Seat → Seat) → p.present.word < 2 ^ 64
-    → ((tag : ℕ) → tag < places → tags_of p.present tag ≡ true
-    → place_of (with_terminals terminals (with_blinds blinds p)) tag ≡ rule tag (place_of p tag))
-    → model_of (with_terminals terminals (with_blinds blinds p)) ≡ each_seat rule (model_of p)
+pub places_written : (p : Panel) (seats : List Seat) (rule : ℕ → Seat → Seat) → p.present.word < 2 ^ 64
+    → ((tag : ℕ) → tag < places → tags_of p.present tag ≡ true → place_of (with_seats seats p) tag ≡ rule tag (place_of p tag))
+    → model_of (with_seats seats p) ≡ each_seat rule (model_of p)
 unfolding seats_of each_seat
-places_written p terminals blinds rule fits ruled =
-    same_model (model_of (with_terminals terminals (with_blinds blinds p))) (each_seat rule (model_of p))
-    (λ tag. go tag (tags_of p.present tag) refl (dec_lt tag places)) refl
+places_written p seats rule fits ruled =
+    same_model (model_of (with_seats seats p)) (each_seat rule (model_of p)) (λ tag. go tag (tags_of p.present tag) refl (dec_lt tag places)) refl
   where
     new : ℕ → Seat
-    new = place_of (with_terminals terminals (with_blinds blinds p))
+    new = place_of (with_seats seats p)
 
     go : (tag : ℕ) (b : Bool) → tags_of p.present tag ≡ b → Dec (tag < places)
         → cond b (some (new tag)) none ≡ map (rule tag) (cond b (some (place_of p tag)) none)

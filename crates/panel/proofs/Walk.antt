@@ -17,7 +17,8 @@ use Rattle.laws.proofs.Every.{every_same, every_true, every_and}
 use Rattle.sound_blind.specs.Sound.{sound}
 use Rattle.tags.specs.Tags as tags
 use Rattle.tags.specs.Tags.{TagSet, places, put}
-use Rattle.panel.specs.Panel.{Seat, Model}
+use Rattle.panel.specs.declared.Seat.{Seat}
+use Rattle.panel.specs.Panel.{Model}
 use Rattle.terminals.specs.Strip.{terminals}
 use Rattle.panel.specs.Sound.{seats_in, sound_seat, sound_seats}
 

@@ -2,10 +2,11 @@
 -- function promises of its call.
 -- Assumes nothing.
 use Rattle.std.specs.Prelude.{ℕ, ◌≡◌, Bool, not, List, [], ◌∷◌, length, eqb}
+use Rattle.answers.specs.declared.Answered.{Answered}
+use Rattle.answers.specs.Numbers.{answer_of, count_of}
 use Rattle.answers.specs.Answers.{Check}
 use Rattle.answers.specs.Rules.{Rule, Result, carried}
 use Rattle.panel.specs.declared.Panel.{Panel}
-use Rattle.panel.specs.declared.calls.Answered.{Answered}
 use Rattle.panel.specs.Panel.{Model, model_of}
 use Rattle.panel.specs.Sound.{is_sound}
 
@@ -44,11 +45,11 @@ abbrev pub CallRule : Type 0
 CallRule = Rule Model Cells
 
 -- What a result and the cells then say.
-abbrev pub handed : Answered → Cells → Result Model Cells
-handed r cells = record { answer = r.answer; count = r.count; second = 0; leaves = model_of r.panel; cells = cells }
+abbrev pub handed : Answered Panel → Cells → Result Model Cells
+handed r cells = record { answer = answer_of r.outcome; count = count_of r.outcome; second = 0; leaves = model_of r.state; cells = cells }
 
 -- What a public function promises of its call: the caller gets what the rule says, and where it is refused the very panel that
 -- was handed over, every place of it.
-pub record Does (rule : CallRule) (panel : Panel) (entry : Cells) (r : Answered) (exit : Cells) : Type 0 where
+pub record Does (rule : CallRule) (panel : Panel) (entry : Cells) (r : Answered Panel) (exit : Cells) : Type 0 where
   pub outcome : handed r exit ≡ carried rule (model_of panel) entry
-  pub kept : (r.answer ≡ 0 → ⊥) → r.panel ≡ panel
+  pub kept : (answer_of r.outcome ≡ 0 → ⊥) → r.state ≡ panel

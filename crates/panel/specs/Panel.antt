@@ -1,8 +1,8 @@
 -- Document 01, "What the panel is": what a panel stands for, and when two panels are the same.
 -- Assumes nothing.
-use Rattle.std.specs.Prelude.{ℕ, Bool, true, false, cond, [], get_or, eqb}
+use Rattle.std.specs.Prelude.{ℕ, Bool, true, false, cond, [], get_or, eqb, Some, None}
+use Rattle.std.specs.Prelude as prelude
 use Rattle.std.proofs.Math.Option.{Option, none, some, map}
-use Rattle.runs.specs.declared.Last.{Last}
 use Rattle.blind.specs.declared.Blind.{Blind}
 use Rattle.params.specs.Parameters.{no_params}
 use Rattle.heights.specs.Heights.{unknown}
@@ -11,11 +11,7 @@ use Rattle.blind.specs.declared.Motion.{Motion}
 use Rattle.tags.specs.Tags.{TagSet, tags_of}
 use Rattle.table.specs.Links.{Held, held_of, holding}
 use Rattle.panel.specs.declared.Panel.{Panel}
-
--- A blind, and the terminal that it stands at.
-pub record Seat : Type 0 where
-  pub terminal : ℕ
-  pub blind : Blind
+use Rattle.panel.specs.declared.Seat.{Seat}
 
 -- "A panel holds up to 64 blinds (tags 0 to 63) .. and up to 512 links": the seat of each tag that has a blind, and the links.
 pub record Model : Type 0 where
@@ -24,15 +20,27 @@ pub record Model : Type 0 where
 
 -- What is read at a place that no array has.
 abbrev pub nobody : Blind
-nobody = record { params = no_params; flags = no_flags; place = unknown; last = Last.Either; motion = Motion.Off 0 }
+nobody = record { params = no_params; flags = no_flags; place = unknown; last = None; motion = Motion.Off 0 }
+
+abbrev pub vacant : Seat
+vacant = record { terminal = 0; blind = nobody }
 
 -- What stands at the place of a tag, whether the tag is present or not.
 abbrev pub place_of : Panel → ℕ → Seat
-place_of p tag = record { terminal = get_or p.terminals tag 0; blind = get_or p.blinds tag nobody }
+place_of p tag = get_or p.seats tag vacant
 
 -- "An absent tag carries nothing."
 unfoldable pub seats_of : Panel → ℕ → Option Seat
 seats_of p tag = cond (tags_of p.present tag) (some (place_of p tag)) none
+
+-- The same, as a program is told it.
+abbrev pub seat_at : Panel → ℕ → prelude.Option Seat
+seat_at p tag = cond (tags_of p.present tag) (Some (place_of p tag)) None
+
+-- What a program is told, as the model says it.
+abbrev pub found : prelude.Option Seat → Option Seat
+found None = none
+found (Some seat) = some seat
 
 -- "An unused link place or an absent tag carries nothing: two panels are the same when their blinds and their links are."
 -- So p and q are the same where `model_of p ≡ model_of q`.

@@ -4,23 +4,22 @@ use Rattle.std.specs.Prelude.{ℕ, ◌≡◌, cond, List, get_or}
 use Rattle.std.proofs.Math.Option.{Option, none, some}
 use Rattle.tags.specs.declared.Tags.{Tags}
 use Rattle.tags.specs.Tags.{tags_of}
-use Rattle.blind.specs.declared.Blind.{Blind}
 use Rattle.table.specs.Plain.{Plain, plain_held, Same, packed}
 use Rattle.table.specs.Plain as ofTable
 use Rattle.panel.specs.declared.Panel.{Panel}
-use Rattle.panel.specs.Panel.{Seat, Model, nobody, seats_of}
+use Rattle.panel.specs.declared.Seat.{Seat}
+use Rattle.panel.specs.Panel.{Model, vacant, seats_of}
 
 -- The panel as it was: all but its table was as it is.
 pub record PlainPanel : Type 0 where
   pub present : Tags
-  pub terminals : List ℕ
-  pub blinds : List Blind
+  pub seats : List Seat
   pub table : Plain
 
 -- What it stood for.
 unfoldable pub plain_seats : PlainPanel → ℕ → Option Seat
 plain_seats p tag =
-    cond (tags_of p.present tag) (some (record { terminal = get_or p.terminals tag 0; blind = get_or p.blinds tag nobody })) none
+    cond (tags_of p.present tag) (some (get_or p.seats tag vacant)) none
 
 abbrev pub plain_model : PlainPanel → Model
 plain_model p = record { seats = plain_seats p; table = plain_held p.table }
@@ -39,4 +38,4 @@ pub record SamePanel (p : Panel) (q : PlainPanel) : Type 0 where
 
 -- An old panel in words.
 unfoldable pub in_words : PlainPanel → Panel
-in_words q = record { present = q.present; terminals = q.terminals; blinds = q.blinds; table = packed q.table }
+in_words q = record { present = q.present; seats = q.seats; table = packed q.table }

@@ -7,7 +7,8 @@ use Rattle.laws.specs.Fills.{tabulate}
 use Rattle.tags.specs.Tags.{places}
 use Rattle.blind.specs.declared.Blind.{Blind}
 use Rattle.outputs.specs.Reports.{no_report, report}
-use Rattle.panel.specs.Panel.{Seat, Model}
+use Rattle.panel.specs.declared.Seat.{Seat}
+use Rattle.panel.specs.Panel.{Model}
 use Rattle.panel.specs.Calls.{Cells}
 
 -- The cell of a tag: the blind before the call against the blind after it. A tag without a blind has nothing to report.

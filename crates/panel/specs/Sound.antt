@@ -9,7 +9,8 @@ use Rattle.sound_blind.specs.Sound as ofBlind
 use Rattle.link.specs.declared.Link.{Link}
 use Rattle.link.specs.Link.{nothing}
 use Rattle.table.specs.Sound as ofLinks
-use Rattle.panel.specs.Panel.{Seat, Model, present_in}
+use Rattle.panel.specs.declared.Seat.{Seat}
+use Rattle.panel.specs.Panel.{Model, present_in}
 
 -- "Tags 0 to 63."
 abbrev pub Tagged : Model → Type 0

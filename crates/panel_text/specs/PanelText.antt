@@ -5,7 +5,8 @@ use Rattle.std.proofs.Math.Option.{Option, none, some}
 use Rattle.tags.specs.Tags.{places}
 use Rattle.link.specs.declared.Link.{Link}
 use Rattle.link.specs.Link.{nothing}
-use Rattle.panel.specs.Panel.{Seat, Model}
+use Rattle.panel.specs.Panel.{Model}
+use Rattle.panel.specs.declared.Seat.{Seat}
 use Rattle.texts.specs.Text.{text}
 use Rattle.texts.specs.Sheet.{each, joined}
 use Rattle.shows.specs.Numbers.{spaced}

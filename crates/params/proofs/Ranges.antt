@@ -1,6 +1,7 @@
 -- The tests of a set and of the numbers that are asked for decide whether they are in the ranges of the table.
 -- Assumes nothing.
-use Prim.Native.Nat.{ℕ}
+use Prim.Native.Nat.{ℕ, ◌<◌, ◌^◌}
+use native.Mathlib.Omega.{arith}
 use mathlib.Core.Path.{◌≡◌}
 use mathlib.Core.Bool.{true}
 use mathlib.Core.List.{List}
@@ -8,7 +9,7 @@ use lib.ListN.{length, get_or}
 use Rattle.laws.specs.Decides.{Decides}
 use Rattle.laws.proofs.Deciding.{le, eq, and, said}
 use Rattle.params.specs.declared.Params.{Params}
-use Rattle.params.specs.Parameters.{SoundParams, within, times_in_range, in_range}
+use Rattle.params.specs.Parameters.{SoundParams, within, times_in_range, in_range, no_params}
 use Rattle.params.specs.Numbers.{set_size, params_of, InRanges, allowed}
 
 pub params_decide : (p : Params) → Decides (in_range p) (SoundParams p)
@@ -37,6 +38,13 @@ params_decide p =
     ))
     (and (and (le 1000 p.mudt) (le p.mudt 600000))
     (and (and (le 1 p.sst) (le p.sst 10000)) (and (le p.sst p.mudt) (and (le 100 p.rpt) (le p.rpt 10000)))))
+
+-- times in range fit the fields of a set
+pub times_fit : (mudt sst rpt : ℕ) → times_in_range mudt sst rpt ≡ true → (mudt < 2 ^ 32) × ((sst < 2 ^ 32) × (rpt < 2 ^ 32))
+unfolding in_range
+times_fit mudt sst rpt e =
+    let s : SoundParams (record no_params { mudt = mudt; sst = sst; rpt = rpt }) = (params_decide (record no_params { mudt = mudt; sst = sst; rpt = rpt })).holds e in
+    (omega (arith, s.mudt_most), (omega (arith, s.sst_most), omega (arith, s.rpt_most)))
 
 -- the test of the numbers that are asked for
 pub ranges_decide : (ns : List ℕ) → Decides (allowed ns) (InRanges ns)

@@ -1,14 +1,19 @@
 -- Document 01, "Parameters of a blind": the numbers of a set in the order of the table, and the set that numbers are.
 -- Assumes nothing.
-use Rattle.std.specs.Prelude.{ℕ, ◌≤◌, ◌≡◌, Bool, cond, ◌&&◌, List, [], ◌∷◌, length, get_or, eqb, leb}
+use Rattle.std.specs.Prelude.{ℕ, ◌≤◌, ◌≡◌, Bool, cond, ◌&&◌, List, [], ◌∷◌, length, get_or, eqb, leb, Result, Ok, Err}
 use Rattle.params.specs.declared.Params.{Params}
 use Rattle.params.specs.declared.Reaction.{Reaction}
+use Rattle.params.specs.declared.NoReaction.{NoReaction}
 use Rattle.params.specs.declared.Asked.{Asked}
 use Rattle.params.specs.Parameters.{in_range, SoundParams}
 
 -- "Reactions: 0 ignore, 1 up, 2 down, 3 stop."
 unfoldable pub reaction_of : ℕ → Reaction
 reaction_of n = cond (eqb n 1) Reaction.Up (cond (eqb n 2) Reaction.Down (cond (eqb n 3) Reaction.Stop Reaction.Ignore))
+
+-- Of 0 to 3 it is that one, and any other number is no reaction's.
+abbrev pub reaction_read : ℕ → Result Reaction NoReaction
+reaction_read n = cond (leb n 3) (Ok (reaction_of n)) (Err (record { 0 = n }))
 
 abbrev pub number_of : Reaction → ℕ
 number_of Reaction.Ignore = 0

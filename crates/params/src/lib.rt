@@ -5,13 +5,17 @@
 mod numbers;
 mod parameters;
 
-#[derive(Clone, Copy)]
+#[derive(Clone, Copy, PartialEq, Eq)]
 pub enum Reaction {
     Ignore,
     Up,
     Down,
     Stop,
 }
+
+// A number that is no reaction's.
+#[derive(Clone, Copy)]
+pub struct NoReaction(pub u64);
 
 // Times in milliseconds; the reactions are those to wind, rain and frost.
 #[derive(Clone, Copy)]

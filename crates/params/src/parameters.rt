@@ -1,7 +1,7 @@
 // Document 01, "Parameters of a blind": the default set, the ranges, and the numbers of a set in the paper's order.
 ghost use Rattle.std.specs.Prelude.{◌≡◌};
-ghost use Rattle.params.specs.Parameters.{defaults, within, times_in_range, in_range};
-ghost use Rattle.params.specs.Numbers.{number_of, numbers_of};
+ghost use Rattle.params.specs.Parameters.{defaults, times_in_range, in_range};
+ghost use Rattle.params.specs.Numbers.{numbers_of};
 
 use crate::{Params, Reaction, SET};
 
@@ -26,7 +26,7 @@ impl Params {
     pub fn in_range(self) -> bool
         ensures { result ≡ in_range self }
     {
-        times_in_range(self.mudt as u64, self.sst as u64, self.rpt as u64)
+        times_in_range(self.mudt.into(), self.sst.into(), self.rpt.into())
     }
 
     // How long the motor rests between opposite motions.
@@ -36,55 +36,29 @@ impl Params {
         self.rpt
     }
 
+    // In the paper's order. A method and no `From`: its name says what the array holds.
     #[tactic(auto, unfolding(crate::specs::Numbers::numbers_of))]
     pub fn numbers(self) -> [u64; SET]
         ensures { result ≡ numbers_of self }
     {
-        let rwa = self.rwa;
-        let rra = self.rra;
-        let rfa = self.rfa;
         [
-            self.mudt as u64,
-            self.sst as u64,
-            self.rpt as u64,
-            number(rwa),
-            number(rra),
-            number(rfa),
+            u64::from(self.mudt),
+            u64::from(self.sst),
+            u64::from(self.rpt),
+            u64::from(self.rwa),
+            u64::from(self.rra),
+            u64::from(self.rfa),
         ]
     }
 }
 
 // Of numbers of any size, so that each can be outside its range.
-#[tactic(auto, unfolding(crate::specs::Parameters::times_in_range))]
+#[tactic(auto, unfolding(crate::specs::Parameters::times_in_range, crate::specs::Parameters::within))]
 pub(crate) fn times_in_range(mudt: u64, sst: u64, rpt: u64) -> bool
     ensures { result ≡ times_in_range mudt sst rpt }
 {
-    if !within(1_000, 600_000, mudt) {
-        return false;
-    }
-    if !within(1, 10_000, sst) {
-        return false;
-    }
-    if mudt < sst {
-        return false;
-    }
-    within(100, 10_000, rpt)
-}
-
-#[tactic(auto, unfolding(crate::specs::Parameters::within))]
-fn within(least: u64, most: u64, n: u64) -> bool
-    ensures { result ≡ within least most n }
-{
-    if n < least { false } else { n <= most }
-}
-
-fn number(reaction: Reaction) -> u64
-    ensures { result ≡ number_of reaction }
-{
-    match reaction {
-        Reaction::Ignore => 0,
-        Reaction::Up => 1,
-        Reaction::Down => 2,
-        Reaction::Stop => 3,
-    }
+    (1_000..=600_000).contains(&mudt)
+        && (1..=10_000).contains(&sst)
+        && sst <= mudt
+        && (100..=10_000).contains(&rpt)
 }

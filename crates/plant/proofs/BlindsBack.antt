@@ -19,7 +19,8 @@ use Rattle.params.proofs.Rows.{asked_back, asked_allowed}
 use Rattle.blind.specs.declared.Blind.{Blind}
 use Rattle.tags.specs.Tags.{places}
 use Rattle.table.specs.Links.{holding}
-use Rattle.panel.specs.Panel.{Seat, Model, bare, is_there, present_in, reseated}
+use Rattle.panel.specs.declared.Seat.{Seat}
+use Rattle.panel.specs.Panel.{Model, bare, is_there, present_in, reseated}
 use Rattle.panel.specs.Sound.{Sound, Fine}
 use Rattle.panel.specs.Calls.{Cells, no_cells, CallRule}
 use Rattle.panel.proofs.Seats.{same_model, reseated_at, reseated_other}

@@ -12,7 +12,8 @@ use Rattle.laws.specs.Fills.{tabulate}
 use Rattle.params.specs.Numbers.{number_of, numbers_of}
 use Rattle.tags.specs.Tags.{places}
 use Rattle.link.specs.declared.Link.{Link}
-use Rattle.panel.specs.Panel.{Seat, Model}
+use Rattle.panel.specs.declared.Seat.{Seat}
+use Rattle.panel.specs.Panel.{Model}
 use Rattle.panel.specs.Sound.{Sound, Fine}
 use Rattle.texts.specs.Text.{text}
 use Rattle.texts.specs.Sheet.{joined}
@@ -88,12 +89,13 @@ first_length : length (line_text first_line) ≤ 8
 unfolding first_line text tabulate
 first_length = omega (arith, line_length (text "plant") (1 ∷ []), field_length 0 1 [] (omega arith) no_fields)
 
-pub plant_length : (m : Model) → Fine m → length (plant_text m) ≤ room
+-- no more links are held than the count says
+pub plant_fits : (m : Model) → Sound m → length m.table.links ≤ m.table.count → length (plant_text m) ≤ room
 unfolding plant_text plant_lines
-plant_length m f =
+plant_fits m s few =
     let ls = m.table.links in
-    let links = links_length ls (links_short m f.sound) in
-    let blinds = blinds_length m f.sound places in
+    let links = links_length ls (links_short m s) in
+    let blinds = blinds_length m s places in
     omega (
       arith,
       one_more_lem first_line (blind_lines places m ++ link_lines m),
@@ -101,6 +103,9 @@ plant_length m f =
       both_bytes (blind_lines places m) (link_lines m),
       blinds,
       links,
-      f.full,
-      f.sound.links.at_most,
+      few,
+      s.links.at_most,
     )
+
+pub plant_length : (m : Model) → Fine m → length (plant_text m) ≤ room
+plant_length m f = plant_fits m f.sound (omega (arith, f.full))

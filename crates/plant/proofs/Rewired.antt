@@ -7,7 +7,8 @@ use mathlib.Core.Option.{Option, none, some, map}
 use Rattle.blind.specs.Orders.{fresh_of}
 use Rattle.conduct.proofs.SoundMotions.{fresh_sound}
 use Rattle.tags.specs.Tags.{places}
-use Rattle.panel.specs.Panel.{Seat, Model, each_seat}
+use Rattle.panel.specs.declared.Seat.{Seat}
+use Rattle.panel.specs.Panel.{Model, each_seat}
 use Rattle.panel.specs.Sound.{Fine}
 use Rattle.panel.proofs.Kept.{each_from, blinds_sound}
 use Rattle.installs.specs.Installs.{fresh_seat}

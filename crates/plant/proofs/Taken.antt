@@ -26,7 +26,8 @@ use Rattle.link.specs.Link.{key_of, nothing}
 use Rattle.table.specs.Links.{Held, holding}
 use Rattle.links.specs.Edits.{inserted}
 use Rattle.links.proofs.Order.{inserted_last}
-use Rattle.panel.specs.Panel.{Seat, Model, bare, reseated, relinked}
+use Rattle.panel.specs.declared.Seat.{Seat}
+use Rattle.panel.specs.Panel.{Model, bare, reseated, relinked}
 use Rattle.panel.specs.Sound.{Fine}
 use Rattle.panel.specs.Calls.{Cells, no_cells, CallRule}
 use Rattle.panel.proofs.Seats.{reseated_at, reseated_other, reseated_table}

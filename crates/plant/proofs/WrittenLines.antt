@@ -10,7 +10,8 @@ use Rattle.laws.proofs.Maps.{map_both}
 use Rattle.tags.specs.Tags.{places}
 use Rattle.link.specs.declared.Link.{Link}
 use Rattle.table.specs.Links.{Held, holding}
-use Rattle.panel.specs.Panel.{Seat, Model, bare, reseated, relinked}
+use Rattle.panel.specs.declared.Seat.{Seat}
+use Rattle.panel.specs.Panel.{Model, bare, reseated, relinked}
 use Rattle.panel.proofs.Seats.{reseated_at, reseated_other, reseated_table}
 use Rattle.fields.specs.Lines.{Line}
 use Rattle.plant.specs.Written.{first_line, blind_line, link_line, seat_lines, blind_lines, link_lines, plant_lines}

@@ -15,7 +15,8 @@ use Rattle.tags.specs.Tags.{places}
 use Rattle.link.specs.declared.Link.{Link}
 use Rattle.link.proofs.Ranges.{InRange}
 use Rattle.table.proofs.Sound.{sound_decided, sound_reads}
-use Rattle.panel.specs.Panel.{Seat, Model}
+use Rattle.panel.specs.declared.Seat.{Seat}
+use Rattle.panel.specs.Panel.{Model}
 use Rattle.panel.specs.Sound.{Sound}
 use Rattle.texts.specs.Text.{text}
 use Rattle.decimals.specs.Decimals.{largest}

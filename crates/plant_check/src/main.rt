@@ -3,8 +3,8 @@
 #![tactic(auto)]
 
 use intake::fetch_all;
-use rows::least;
 use std::io::{Eprint, Print};
+use texts::Sheet;
 use verdicts::put_verdict;
 
 // More bytes than a file may have.
@@ -16,15 +16,17 @@ const LINE: usize = 4_096;
 fn main(rt: HostRuntime) {
     let mut file = [0u8; FILE];
     let mut out = [0u8; LINE];
-    let heard = fetch_all(&mut rt.stdin(), &mut file);
-    if heard.failed {
+    let Ok(have) = fetch_all(&mut rt.stdin(), &mut file) else {
         let _ = rt.eprint("plant_check: the input could not be read\n");
         return;
-    }
-    let have = heard.have;
-    let said = put_verdict(&mut out, &file[..have]);
-    let end = least(said, out.len());
-    if rt.write_all(&out[..end]).is_err() {
+    };
+    let mut sheet = Sheet {
+        bytes: &mut out,
+        at: 0,
+    };
+    put_verdict(&mut sheet, &file[..have]);
+    let end = sheet.at.min(sheet.bytes.len());
+    if rt.write_all(&sheet.bytes[..end]).is_err() {
         let _ = rt.eprint("plant_check: the answer could not be written\n");
     }
 }

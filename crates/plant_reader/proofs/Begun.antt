@@ -1,16 +1,19 @@
 -- A line after the first leaves the version.
 -- Assumes nothing.
-use Prim.Native.Nat.{ℕ, ◌<◌}
+use Prim.Native.Nat.{ℕ, zero, suc, ◌<◌}
+use native.Mathlib.Omega.{arith}
 use mathlib.Core.Path.{◌≡◌, sym, ap}
 use mathlib.Core.Bool.{Bool, true, false, cond, ◌&&◌}
 use mathlib.Core.List.{List}
 use mathlib.Core.Option.{Option, none, some, some-injective, none-ne-some}
 use lib.ListN.{length, get_or}
-use lib.Dec.{eqb, leb}
-use borrow.Author.Tests.{lt-ltb}
+use lib.Dec.{eqb, ltb, leb}
+use borrow.Author.Tests.{lt-ltb, ltb-true}
+use Rattle.laws.proofs.Choices.{both_right}
+use Rattle.panel.specs.Panel.{bare}
 use Rattle.texts.specs.Text.{text, same}
 use Rattle.fields.specs.Lines.{Line, line_of}
-use Rattle.plant.specs.Read.{Plan, blind_size, installed, with_blind, link_in, linked, is_above, with_link, opened, further, if_there, taken, bytes_taken}
+use Rattle.plant.specs.Read.{Plan, start, blind_size, begun, installed, with_blind, link_in, linked, is_above, with_link, opened, further, if_there, taken, bytes_taken}
 use Rattle.plant.proofs.Rows.{chosen}
 
 -- a plan that is chosen is the next one
@@ -53,3 +56,28 @@ pub begun_taken : (p : Plan) (bytes : List ℕ) → 0 < p.version → if_there (
 unfolding bytes_taken taken
 begun_taken p bytes h =
     sym (ap (λ (t : Bool). if_there (line_of bytes) none (λ l. cond t (further p l) (opened p l))) (lt-ltb 0 p.version h))
+
+-- the first line names a version above 0
+version_above : (n : ℕ) → 0 < blind_size n → 0 < n
+unfolding blind_size
+version_above zero h = absurd (omega (arith, h))
+version_above (suc n) h = omega arith
+
+opened_version : (q : Plan) (l : Line) → opened start l ≡ some q → 0 < q.version
+unfolding opened begun
+opened_version q l e =
+    let word = chosen (same l.word (text "plant")) (begun start l.numbers) e in
+    let version = get_or l.numbers 0 0 in
+    let first : Plan = record { model = bare; floor = 0; version = version } in
+    let there = chosen (eqb (length l.numbers) 1 && ltb 0 (blind_size version)) (some first) word.1 in
+    let above : 0 < version = version_above version (ltb-true 0 _ (both_right (eqb (length l.numbers) 1) _ there.0)) in
+    let named : version ≡ q.version = ap (λ (p : Plan). p.version) (some-injective first q there.1) in
+    omega (arith, above, named)
+
+pub first_version : (q : Plan) (bytes : List ℕ) → some q ≡ bytes_taken start bytes → 0 < q.version
+unfolding bytes_taken taken
+first_version q bytes e = go (line_of bytes) (sym e)
+  where
+    go : (o : Option Line) → if_there o none (taken start) ≡ some q → 0 < q.version
+    go none e = absurd (none-ne-some q e)
+    go (some l) e = opened_version q l e

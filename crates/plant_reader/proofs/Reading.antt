@@ -1,22 +1,19 @@
 -- What is known of a file after each of its lines, and what each further line makes of it: its line feed is missing, it is bad,
 -- it is good, or the file ends there. Assumes nothing.
-use Prim.Native.Nat.{ℕ, suc, ◌+◌, ◌-◌, ◌≤◌, ◌<◌}
+use Prim.Native.Nat.{ℕ, suc, ◌+◌, ◌≤◌, ◌<◌}
 use native.Mathlib.Numerals.{add-one}
 use native.Mathlib.Omega.{arith}
 use mathlib.Core.Path.{◌≡◌, refl, sym, ap, ◌∙◌}
-use mathlib.Core.Bool.{Bool, true, false, cond, not}
 use mathlib.Core.List.{List}
-use mathlib.Core.Option.{none, some}
+use mathlib.Core.Option.{Option, none, some}
 use lib.ListN.{length, take, drop}
-use borrow.Author.Tests.{not-true, not-false, lt-ltb}
 use Rattle.laws.proofs.Choices.{below_or}
 use Rattle.rows.specs.Lines.{until}
 use Rattle.fields.specs.Parts.{parts}
 use Rattle.fields.specs.Lines.{line_feed, line_of}
 use Rattle.plant.specs.Read.{Plan, start, further, if_there, bytes_taken, good_file, bad_in, walked, file_read}
-use Rattle.plant_reader.specs.declared.drafts.Taken.{Taken}
-use Rattle.plant_reader.specs.Reader.{plan_of, begun_with, begun_if, taken_of}
-use Rattle.plant_reader.proofs.Begun.{same_version, begun_taken}
+use Rattle.plant_reader.specs.Reader.{begun_with}
+use Rattle.plant_reader.proofs.Begun.{same_version, begun_taken, first_version}
 use Rattle.plant_reader.proofs.Walked.{part, no_feed, line_bad, line_good, end_bad, end_good}
 
 -- what is known after each line
@@ -26,17 +23,7 @@ pub record Reading (file : List ℕ) (p : Plan) (lines at : ℕ) : Type 0 where
   pub begun : 0 < p.version
   pub rest : walked (suc lines) p (parts line_feed (drop at file)) ≡ file_read file
 
--- a line that is not good says nothing, and one that is good a plan
-refused : (t : Taken) → t.good ≡ false → none ≡ taken_of t
-refused t e = ap (λ (b : Bool). cond b (some (plan_of t.draft)) none) (sym e)
-
-taken : (t : Taken) → t.good ≡ true → some (plan_of t.draft) ≡ taken_of t
-taken t e = ap (λ (b : Bool). cond b (some (plan_of t.draft)) none) (sym e)
-
 -- ---- the first line
-
-positive : (n : ℕ) → (n ≡ 0 → ⊥) → 0 < n
-positive n h = omega (arith, h)
 
 module _ (file : List ℕ) (end : ℕ) (ends : end ≡ 0 + until line_feed (drop 0 file)) where
   whole_file : walked 1 start (parts line_feed (drop 0 file)) ≡ file_read file
@@ -49,29 +36,26 @@ module _ (file : List ℕ) (end : ℕ) (ends : end ≡ 0 + until line_feed (drop
       (λ here. no_feed file 0 start 1 whole_file end here ends past)
       (λ over. end_bad file 0 start 1 whole_file over refl)
 
-  module _ (ended : end < length file) (version : ℕ) (told : begun_if version ≡ bytes_taken start (take end file)) where
+  module _ (ended : end < length file) where
     -- what the bytes before its line feed say
-    said : begun_if version ≡ bytes_taken start (part 0 end file)
-    said = told ∙ ap (λ (k : ℕ). bytes_taken start (take k file)) (whole end)
-      where
-        whole : (n : ℕ) → n ≡ n - 0
-        whole n = omega arith
+    whole : take end file ≡ part 0 end file
+    whole = ap (λ (k : ℕ). take k file) (omega arith)
 
-    pub first_bad : version ≡ 0 → bad_in 1 ≡ file_read file
+    pub first_bad : none ≡ bytes_taken start (take end file) → bad_in 1 ≡ file_read file
     first_bad none_there =
-        line_bad file 0 start 1 whole_file end (omega (arith, ended)) ends ended (sym (ap begun_if none_there) ∙ said)
+        line_bad file 0 start 1 whole_file end (omega (arith, ended)) ends ended (none_there ∙ ap (bytes_taken start) whole)
 
-    pub first_good : (version ≡ 0 → ⊥) → (q : Plan) → q ≡ begun_with version → Reading file q 1 (end + 1)
-    first_good some-there q is =
-        let there : 0 < version = positive version some-there in
+    pub first_good : (version : ℕ) → some (begun_with version) ≡ bytes_taken start (take end file)
+        → (q : Plan) → q ≡ begun_with version → Reading file q 1 (end + 1)
+    first_good version told q is =
         record {
           few = omega arith;
           within = omega (arith, ended);
-          begun = omega (arith, there, ap (λ (p : Plan). p.version) is);
+          begun = omega (arith, first_version (begun_with version) (take end file) told, ap (λ (p : Plan). p.version) is);
           rest =
               ap (λ (p : Plan). walked 2 p (parts line_feed (drop (end + 1) file))) is
               ∙ line_good file 0 start 1 whole_file end (omega (arith, ended)) ends ended (begun_with version)
-              (sym (ap (λ (t : Bool). cond t (some (begun_with version)) none) (lt-ltb 0 version there)) ∙ said);
+              (told ∙ ap (bytes_taken start) whole);
         }
 
 -- ---- a further line
@@ -84,21 +68,21 @@ module _ (file : List ℕ) (p : Plan) (lines at : ℕ) (so_far : Reading file p 
     pub line_unfed : length file ≤ end → bad_in (lines + 1) ≡ file_read file
     line_unfed past = ap bad_in (add-one lines) ∙ no_feed file at p (suc lines) so_far.rest end here ends past
 
-    module _ (ended : end < length file) (t : Taken) (told : taken_of t ≡ if_there (line_of (part at end file)) none (further p)) where
-      pub line_refused : not t.good ≡ true → bad_in (lines + 1) ≡ file_read file
-      line_refused bad =
-          ap bad_in (add-one lines)
-          ∙ line_bad file at p (suc lines) so_far.rest end here ends ended
-          (refused t (not-true _ bad) ∙ told ∙ begun_taken p _ so_far.begun)
+    module _ (ended : end < length file) where
+      abbrev taken : Option Plan
+      taken = if_there (line_of (part at end file)) none (further p)
 
-      pub line_read : not t.good ≡ false → Reading file (plan_of t.draft) (lines + 1) (end + 1)
-      line_read well =
-          let good = taken t (not-false _ well) ∙ told in
+      pub line_refused : none ≡ taken → bad_in (lines + 1) ≡ file_read file
+      line_refused bad =
+          ap bad_in (add-one lines) ∙ line_bad file at p (suc lines) so_far.rest end here ends ended (bad ∙ begun_taken p _ so_far.begun)
+
+      pub line_read : (q : Plan) → some q ≡ taken → Reading file q (lines + 1) (end + 1)
+      line_read q good =
           record {
             few = omega (arith, so_far.few, ends);
             within = omega (arith, ended);
             begun = omega (arith, so_far.begun, same_version p _ _ (sym good));
             rest =
-                ap (λ (n : ℕ). walked n (plan_of t.draft) (parts line_feed (drop (end + 1) file))) (ap suc (add-one lines))
-                ∙ line_good file at p (suc lines) so_far.rest end here ends ended (plan_of t.draft) (good ∙ begun_taken p _ so_far.begun);
+                ap (λ (n : ℕ). walked n q (parts line_feed (drop (end + 1) file))) (ap suc (add-one lines))
+                ∙ line_good file at p (suc lines) so_far.rest end here ends ended q (good ∙ begun_taken p _ so_far.begun);
           }

@@ -11,14 +11,19 @@ use lib.ListN.{length, get_or, drop}
 use lib.Dec.{eqb, leb}
 use borrow.Author.Tests.{eq-eqb, ne_eqb, lt-ltb, le-ltb, le-leb, lt-leb}
 use Rattle.laws.proofs.Choices.{both, same_or_other}
+use Rattle.std.specs.Prelude.{Err}
+use Rattle.answers.specs.declared.Answered.{Answered}
+use Rattle.answers.specs.declared.Refusal.{Refusal}
+use Rattle.answers.specs.Numbers.{answer_of, count_of}
 use Rattle.answers.specs.Rules.{Result, carried}
+use Rattle.answers.proofs.Numbers.{some_number}
 use Rattle.answers.proofs.Rules.{answer_is, done}
 use Rattle.params.specs.Numbers.{set_size, row_of, allowed}
 use Rattle.link.specs.declared.Link.{Link}
 use Rattle.link.specs.Link.{link_of}
+use Rattle.panel.specs.declared.Panel.{Panel}
 use Rattle.panel.specs.Panel.{Model, model_of}
 use Rattle.panel.specs.Calls.{Cells, no_cells, handed}
-use Rattle.panel.specs.declared.calls.Answered.{Answered}
 use Rattle.installs.specs.Installs.{install_rule}
 use Rattle.installs.proofs.Passed.{installable}
 use Rattle.wiring.specs.Wiring.{add_rule}
@@ -123,28 +128,28 @@ module _ (p : Plan) (a : Arguments) where
     unfolding with_blind
     blind_below low = refused _ _ (right_fails counted _ (left_fails in_order _ (lt-leb p.floor _ (omega (arith, low, tag_at)))))
 
-    module _ (r : Answered) (told : handed r no_cells ≡ carried (install_rule tag (value_at a 1) (row_of (set_in a))) p.model no_cells) where
+    module _ (r : Answered Panel) (told : handed r no_cells ≡ carried (install_rule tag (value_at a 1) (row_of (set_in a))) p.model no_cells) where
       same_install : handed r no_cells ≡ installed p (numbers_in a)
       same_install =
           told
           ∙ ap₂ (λ (t u : ℕ). carried (install_rule t u (row_of (set_in a))) p.model no_cells) (sym tag_at) (sym (number_at a 1 (omega (arith, size))))
           ∙ ap (λ (set : List ℕ). carried (install_rule (get_or (numbers_in a) 0 0) (get_or (numbers_in a) 1 0) set) p.model no_cells) (set_kept a size)
 
-      same_answer : r.answer ≡ (installed p (numbers_in a)).answer
+      same_answer : (answer_of r.outcome) ≡ (installed p (numbers_in a)).answer
       same_answer = ap (λ (o : Result Model Cells). o.answer) same_install
 
-      pub blind_refused : (r.answer ≡ 0 → ⊥) → none ≡ with_blind p (numbers_in a)
-      blind_refused other = not_standing (λ e. other (same_answer ∙ e))
+      pub blind_refused : {why : Refusal} → r.outcome ≡ Err why → none ≡ with_blind p (numbers_in a)
+      blind_refused {why} is = not_standing (λ e. some_number why (sym (ap answer_of is) ∙ same_answer ∙ e))
 
       -- an installed blind has one of the tags
-      pub tag_low : r.answer ≡ 0 → tag < 64
+      pub tag_low : (answer_of r.outcome) ≡ 0 → tag < 64
       tag_low e =
           (installable tag (value_at a 1) (row_of (set_in a)) p.model no_cells
           (sym (answer_is (install_rule tag (value_at a 1) (row_of (set_in a))) p.model no_cells) ∙ sym (ap (λ (o : Result Model Cells). o.answer) told) ∙ e)
           ).within.tag_low
 
-      pub blind_good : a.count ≡ blind_size p.version → p.floor ≤ tag → p.model.table.count ≡ 0 → r.answer ≡ 0
-          → some (record { model = model_of r.panel; floor = tag + 1; version = p.version }) ≡ with_blind p (numbers_in a)
+      pub blind_good : a.count ≡ blind_size p.version → p.floor ≤ tag → p.model.table.count ≡ 0 → (answer_of r.outcome) ≡ 0
+          → some (record { model = model_of r.state; floor = tag + 1; version = p.version }) ≡ with_blind p (numbers_in a)
       unfolding with_blind
       blind_good count high none_yet zero =
           ap₂ (λ (m : Model) (n : ℕ). some (record { model = m; floor = n; version = p.version }))
@@ -170,19 +175,19 @@ module _ (p : Plan) (a : Arguments) where
     abbrev lengthy : Bool
     lengthy = eqb (length (numbers_in a)) 3
 
-    module _ (r : Answered) (told : handed r no_cells ≡ carried (add_rule link) p.model no_cells) where
+    module _ (r : Answered Panel) (told : handed r no_cells ≡ carried (add_rule link) p.model no_cells) where
       same_link_lem : handed r no_cells ≡ linked p (numbers_in a)
       same_link_lem = told ∙ ap (λ (l : Link). carried (add_rule l) p.model no_cells) (sym link_at)
 
-      link_answer : r.answer ≡ (linked p (numbers_in a)).answer
+      link_answer : (answer_of r.outcome) ≡ (linked p (numbers_in a)).answer
       link_answer = ap (λ (o : Result Model Cells). o.answer) same_link_lem
 
-      pub link_refused : (r.answer ≡ 0 → ⊥) → none ≡ with_link p (numbers_in a)
+      pub link_refused : ((answer_of r.outcome) ≡ 0 → ⊥) → none ≡ with_link p (numbers_in a)
       unfolding with_link
       link_refused other = refused _ _ (right_fails lengthy _ (left_fails _ _ (ne_eqb _ 0 (λ e. other (link_answer ∙ e)))))
 
       -- an accepted link moves none exactly if it is above all others
-      moved_told : r.answer ≡ 0 → eqb r.count 0 ≡ is_above (link_in (numbers_in a)) p.model.table.links
+      moved_told : (answer_of r.outcome) ≡ 0 → eqb (count_of r.outcome) 0 ≡ is_above (link_in (numbers_in a)) p.model.table.links
       unfolding add_rule
       moved_told zero =
           let answered : (carried (add_rule link) p.model no_cells).answer ≡ 0 = sym (ap (λ (o : Result Model Cells). o.answer) told) ∙ zero in
@@ -190,13 +195,13 @@ module _ (p : Plan) (a : Arguments) where
           ∙ above_told link p.model (sym (answer_is (add_rule link) p.model no_cells) ∙ answered)
           ∙ ap (λ (l : Link). is_above l p.model.table.links) (sym link_at)
 
-      pub link_moves : r.answer ≡ 0 → (r.count ≡ 0 → ⊥) → none ≡ with_link p (numbers_in a)
+      pub link_moves : (answer_of r.outcome) ≡ 0 → ((count_of r.outcome) ≡ 0 → ⊥) → none ≡ with_link p (numbers_in a)
       unfolding with_link
       link_moves zero some-move =
           refused _ _ (right_fails lengthy _ (right_fails (eqb (linked p (numbers_in a)).answer 0) _ (sym (moved_told zero) ∙ ne_eqb _ 0 some-move)))
 
-      pub link_good : r.answer ≡ 0 → r.count ≡ 0
-          → some (record { model = model_of r.panel; floor = p.floor; version = p.version }) ≡ with_link p (numbers_in a)
+      pub link_good : (answer_of r.outcome) ≡ 0 → (count_of r.outcome) ≡ 0
+          → some (record { model = model_of r.state; floor = p.floor; version = p.version }) ≡ with_link p (numbers_in a)
       unfolding with_link
       link_good zero none-move =
           ap (λ (o : Result Model Cells). some (record { model = o.leaves; floor = p.floor; version = p.version })) same_link_lem

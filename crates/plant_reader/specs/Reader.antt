@@ -1,37 +1,45 @@
 -- Document 02, K3, the reader: what its values say.
 -- Assumes nothing.
-use Rattle.std.specs.Prelude.{ℕ, ◌+◌, cond, List, ltb}
-use Rattle.std.proofs.Math.Option.{Option, none, some}
+use Rattle.std.specs.Prelude.{ℕ, ◌+◌, cond, List, Option, Some, None, Result, Ok, Err, eqb}
+use Rattle.std.proofs.Math.Option.{none, some}
+use Rattle.std.proofs.Math.Option as ofMath
 use Rattle.laws.specs.Fills.{tabulate}
 use Rattle.params.specs.declared.Asked.{Asked}
 use Rattle.params.specs.Numbers.{set_size, asked_of}
+use Rattle.panel.specs.declared.Panel.{Panel}
 use Rattle.panel.specs.Panel.{model_of, bare}
 use Rattle.arguments.specs.declared.Arguments.{Arguments}
 use Rattle.arguments.specs.Arguments.{value_at}
-use Rattle.plant.specs.Read.{Plan}
+use Rattle.plant.specs.Read.{Plan, blind_size, good_file, bad_in}
 use Rattle.plant.specs.Read as ofPlant
-use Rattle.plant_reader.specs.declared.FileRead.{FileRead}
+use Rattle.plant_reader.specs.declared.BadLine.{BadLine}
 use Rattle.plant_reader.specs.declared.drafts.Draft.{Draft}
-use Rattle.plant_reader.specs.declared.drafts.Taken.{Taken}
 
--- The answer, and the panel.
-abbrev pub read_of : FileRead → ofPlant.FileRead
-read_of r = record { line = r.line; panel = model_of r.panel }
+-- The answer, and the panel: 0 and the panel of the file, or the number of the first bad line and the empty panel.
+abbrev pub read_of : Result Panel BadLine → ofPlant.FileRead
+read_of (Ok panel) = good_file (model_of panel)
+read_of (Err bad) = bad_in bad.0
 
 -- What the lines so far say.
 abbrev pub plan_of : Draft → Plan
 plan_of d = record { model = model_of d.panel; floor = d.floor; version = d.version }
 
--- After a first line with this version; a line that is bad has 0.
+-- After a first line with this version, if it is good.
 abbrev pub begun_with : ℕ → Plan
 begun_with version = record { model = bare; floor = 0; version = version }
 
-abbrev pub begun_if : ℕ → Option Plan
-begun_if version = cond (ltb 0 version) (some (begun_with version)) none
+abbrev pub begun_if : Option ℕ → ofMath.Option Plan
+begun_if None = none
+begun_if (Some version) = some (begun_with version)
 
 -- The same with a line more, if that was good.
-abbrev pub taken_of : Taken → Option Plan
-taken_of t = cond t.good (some (plan_of t.draft)) none
+abbrev pub taken_of : Option Draft → ofMath.Option Plan
+taken_of None = none
+taken_of (Some d) = some (plan_of d)
+
+-- How many numbers a blind line has in a version, if that is one.
+abbrev pub size_of : ℕ → Option ℕ
+size_of version = cond (eqb (blind_size version) 0) None (Some (blind_size version))
 
 -- The numbers that were read of a line.
 unfoldable pub numbers_in : Arguments → List ℕ

@@ -2,10 +2,9 @@
 ghost use Rattle.std.specs.Prelude.{◌≡◌};
 ghost use Rattle.std.proofs.Math.Option.{none};
 ghost use Rattle.fields.specs.Lines.{line as ofLines·line, line_of};
-ghost use Rattle.plant.specs.Read.{blind_size, with_blind, with_link, further as ofRead·further, if_there};
-ghost use Rattle.plant_reader.specs.Reader.{plan_of, begun_with, taken_of, numbers_in, set_in};
+ghost use Rattle.plant.specs.Read.{with_blind, with_link, further as ofRead·further, if_there};
+ghost use Rattle.plant_reader.specs.Reader.{plan_of, begun_with, taken_of, size_of, numbers_in, set_in};
 
-use answers::DONE;
 use arguments::Arguments;
 use fields::{TAB, numbers_of};
 use installs::install;
@@ -21,13 +20,6 @@ pub(crate) struct Draft {
     pub panel: Panel,
     pub floor: u64,
     pub version: u64,
-}
-
-// Whether a line is good, and the draft with it.
-#[derive(Clone, Copy)]
-pub(crate) struct Taken {
-    pub good: bool,
-    pub draft: Draft,
 }
 
 // How many numbers a blind line has before those of its set: tag and terminal.
@@ -49,30 +41,19 @@ impl Draft {
         }
     }
 
-    // One line more after the first, given without its line feed.
-    pub(crate) fn with(self, line: &[u8]) -> Taken
+    // One line more after the first, given without its line feed, if it is good.
+    #[tactic(auto, using(fields::proofs::Parts::first_mark, crate::proofs::Said::no_numbers, crate::proofs::Said::by_word))]
+    pub(crate) fn with(self, line: &[u8]) -> Option<Draft>
         ensures { taken_of result ≡ if_there (line_of line.now) none (ofRead·further (plan_of self)) }
     {
         let end = place_of(TAB, line, 0);
-        let numbers = numbers_of(line, end);
-        if !numbers.numeric {
-            return self.refused();
-        }
+        let numbers = numbers_of(line, end)?;
         self.further(&line[..end], numbers)
-    }
-
-    fn refused(self) -> Taken
-        ensures { taken_of result ≡ none }
-    {
-        Taken {
-            good: false,
-            draft: self,
-        }
     }
 
     // By its word.
     #[tactic(auto, unfolding(plant::specs::Read::further, texts::specs::Text::text, laws::specs::Fills::tabulate))]
-    fn further(self, word: &[u8], numbers: Arguments) -> Taken
+    fn further(self, word: &[u8], numbers: Arguments) -> Option<Draft>
         ensures { taken_of result ≡ ofRead·further (plan_of self) (ofLines·line word.now (numbers_in numbers)) }
     {
         if is_same(word, b"blind") {
@@ -81,72 +62,64 @@ impl Draft {
         if is_same(word, b"link") {
             return self.with_link(numbers);
         }
-        self.refused()
+        None
     }
 
     // Blinds stand by tag, and before all links.
-    #[tactic(auto, using(crate::proofs::Taken::blind_none, crate::proofs::Taken::blind_count, crate::proofs::Taken::blind_below, crate::proofs::Taken::blind_late, crate::proofs::Taken::blind_refused, crate::proofs::Taken::tag_low, crate::proofs::Taken::blind_good, crate::proofs::Said::one_size))]
-    fn with_blind(self, numbers: Arguments) -> Taken
+    #[tactic(auto, using(crate::proofs::Taken::blind_none, crate::proofs::Taken::blind_count, crate::proofs::Taken::blind_below, crate::proofs::Taken::blind_late, crate::proofs::Taken::blind_refused, crate::proofs::Taken::tag_low, crate::proofs::Taken::blind_good, crate::proofs::Said::size_there, crate::proofs::Said::size_missing))]
+    fn with_blind(self, numbers: Arguments) -> Option<Draft>
         ensures { taken_of result ≡ with_blind (plan_of self) (numbers_in numbers) }
     {
         let tag = numbers.values[0];
         let terminal = numbers.values[1];
-        let size = blind_size(self.version);
-        if size == 0 {
-            return self.refused();
-        }
-        if numbers.count != size {
-            return self.refused();
+        if numbers.count != blind_size(self.version)? {
+            return None;
         }
         if tag < self.floor {
-            return self.refused();
+            return None;
         }
         if self.panel.table.count != 0 {
-            return self.refused();
+            return None;
         }
         let installed = install(self.panel, tag, terminal, set_of(numbers));
-        if installed.answer != DONE {
-            return self.refused();
+        match installed.outcome {
+            Ok(_) => Some(Draft {
+                panel: installed.state,
+                floor: tag + 1,
+                ..self
+            }),
+            Err(_) => None,
         }
-        let panel = installed.panel;
-        let draft = Draft {
-            panel,
-            floor: tag + 1,
-            version: self.version,
-        };
-        Taken { good: true, draft }
     }
 
     // A link that stands after all others moves none.
     #[tactic(auto, using(crate::proofs::Taken::link_count, crate::proofs::Taken::link_refused, crate::proofs::Taken::link_moves, crate::proofs::Taken::link_good))]
-    fn with_link(self, numbers: Arguments) -> Taken
+    fn with_link(self, numbers: Arguments) -> Option<Draft>
         ensures { taken_of result ≡ with_link (plan_of self) (numbers_in numbers) }
     {
         if numbers.count != LINK {
-            return self.refused();
+            return None;
         }
-        let values = numbers.values;
-        let added = add_link(self.panel, values[0], values[1], values[2]);
-        if added.answer != DONE {
-            return self.refused();
+        let [address, tag, kind, ..] = numbers.values;
+        let added = add_link(self.panel, address, tag, kind);
+        match added.outcome {
+            Ok(0) => Some(Draft {
+                panel: added.state,
+                ..self
+            }),
+            _ => None,
         }
-        if added.count != 0 {
-            return self.refused();
-        }
-        let panel = added.panel;
-        let draft = Draft { panel, ..self };
-        Taken { good: true, draft }
     }
 }
 
-// How many numbers a blind line has in a version; 0 where there is no such version.
+// How many numbers a blind line has in a version, if that is one.
 #[tactic(auto, unfolding(plant::specs::Read::blind_size))]
-pub(crate) fn blind_size(version: u64) -> usize
-    ensures { result ≡ blind_size version }
+pub(crate) fn blind_size(version: u64) -> Option<usize>
+    ensures { result ≡ size_of version }
 {
     match version {
-        1 => HEAD + SET,
-        _ => 0,
+        1 => Some(HEAD + SET),
+        _ => None,
     }
 }
 
@@ -155,8 +128,6 @@ fn set_of(numbers: Arguments) -> Asked
     ensures { result ≡ set_in numbers }
 {
     let mut row = [0; SET];
-    for k in 0..SET {
-        row[k] = numbers.values[HEAD + k];
-    }
-    Asked::of(row)
+    row.copy_from_slice(&numbers.values[HEAD..HEAD + SET]);
+    Asked::from(row)
 }

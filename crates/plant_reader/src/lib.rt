@@ -5,8 +5,8 @@
 mod drafts;
 mod first_line;
 
-ghost use Rattle.std.specs.Prelude.{◌≡◌};
-ghost use Rattle.plant.specs.Read.{bad_in, file_read};
+ghost use Rattle.std.specs.Prelude.{◌≡◌, ◌<◌, IfErr};
+ghost use Rattle.plant.specs.Read.{file_read};
 ghost use Rattle.plant_reader.specs.Reader.{read_of};
 
 use crate::drafts::Draft;
@@ -14,48 +14,33 @@ use crate::first_line::version_of;
 use panel::Panel;
 use rows::line_end;
 
-// The number of the first bad line and an empty panel; or 0 and the panel of the file.
+// The number of the first bad line.
 #[derive(Clone, Copy)]
-pub struct FileRead {
-    pub line: u64,
-    pub panel: Panel,
-}
+pub struct BadLine(pub u64);
 
+// The panel of a file, or its first bad line; lines are counted from 1.
 #[tactic(auto, using(crate::proofs::Reading::first_unfed, crate::proofs::Reading::first_bad, crate::proofs::Reading::first_good, crate::proofs::Reading::file_end, crate::proofs::Reading::line_refused))]
-pub fn read(file: &[u8]) -> FileRead
-    ensures { read_of result ≡ file_read file.now }
+pub fn read(file: &[u8]) -> Result<Panel, BadLine>
+    ensures value { read_of result ≡ file_read file.now }
+    ensures from_1 { IfErr result (λ bad. 0 < bad.0) }
 {
     let first = line_end(file, 0);
     if file.len() <= first {
-        return bad_in(1);
+        return Err(BadLine(1));
     }
-    let version = version_of(&file[..first]);
-    if version == 0 {
-        return bad_in(1);
-    }
+    let version = version_of(&file[..first]).ok_or(BadLine(1))?;
     let mut draft = Draft::start(version);
     let mut lines = 1;
     let mut at = first + 1;
+    // Each turn goes on after the line feed of its line: an iterator over lines would not tell that the last one is missing.
     while at < file.len() {
         let end = line_end(file, at);
         if file.len() <= end {
-            return bad_in(lines + 1);
+            return Err(BadLine(lines + 1));
         }
-        let next = draft.with(&file[at..end]);
-        if !next.good {
-            return bad_in(lines + 1);
-        }
-        draft = next.draft;
+        draft = draft.with(&file[at..end]).ok_or(BadLine(lines + 1))?;
         lines += 1;
         at = end + 1;
     }
-    let panel = draft.panel;
-    FileRead { line: 0, panel }
-}
-
-fn bad_in(line: u64) -> FileRead
-    ensures { read_of result ≡ bad_in line }
-{
-    let panel = Panel::empty();
-    FileRead { line, panel }
+    Ok(draft.panel)
 }

@@ -11,39 +11,22 @@ ghost use Rattle.plant.specs.Written.{file_rule};
 ghost use Rattle.plant_writer.specs.Writer.{written_of};
 
 use crate::lines::put_lines;
-use answers::{DONE, NOT_SOUND, SHORT_BUFFER};
+use answers::Refusal;
 use fields::ROOM;
 use panel::Panel;
-use panel::soundness::{is_sound, seats_sound};
 
-// The answer, and how many bytes the file has.
-#[derive(Clone, Copy)]
-pub struct Written {
-    pub answer: u8,
-    pub length: usize,
-}
-
-// Refused by 13, then by 12, with length 0. The rest of the buffer stays as it was.
-#[tactic(auto, using(crate::proofs::Filled::short_refused))]
-pub fn write(panel: Panel, out: &mut [u8]) -> Written
-    ensures { written_of result (model_of panel) (row out.new) ≡ carried file_rule (model_of panel) (row out.old) }
+// How many bytes the file has. Refused by 13, then by 12. The rest of the buffer stays as it was.
+#[tactic(auto, using(crate::proofs::Filled::short_refused, crate::proofs::Filled::unsound_refused))]
+pub fn write(panel: &Panel, out: &mut [u8]) -> Result<usize, Refusal>
+    ensures { written_of result (model_of panel.now) (row out.new) ≡ carried file_rule (model_of panel.now) (row out.old) }
 {
     if out.len() < ROOM {
-        return Written {
-            answer: SHORT_BUFFER,
-            length: 0,
-        };
+        return Err(Refusal::ShortBuffer);
     }
-    let seated = seats_sound(panel.present, panel.terminals, panel.blinds);
-    if !is_sound(seated, panel.present, &panel.table.words, panel.table.count) {
-        return Written {
-            answer: NOT_SOUND,
-            length: 0,
-        };
+    if !panel.is_sound() {
+        return Err(Refusal::NotSound);
     }
-    let length = put_lines(out, panel);
-    Written {
-        answer: DONE,
-        length,
-    }
+    // Read for the proof alone: a number behind a reference is known to have 64 bits once it is read.
+    let _word = panel.present.word;
+    Ok(put_lines(panel, out))
 }

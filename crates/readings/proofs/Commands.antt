@@ -17,7 +17,8 @@ use Rattle.laws.proofs.Fills.{tabulate_length, tabulate_at, tabulate_same, tabul
 use Rattle.tags.specs.Tags.{places}
 use Rattle.outputs.specs.Reports.{motor_of}
 use Rattle.table.specs.Sound as ofLinks
-use Rattle.panel.specs.Panel.{Seat, Model, present_in}
+use Rattle.panel.specs.declared.Seat.{Seat}
+use Rattle.panel.specs.Panel.{Model, present_in}
 use Rattle.terminals.specs.Strip.{terminals}
 use Rattle.panel.specs.Sound.{Sound, seats_in, sound_seat, sound_seats, all_named, is_sound}
 use Rattle.panel.proofs.Decides.{sound_tested}

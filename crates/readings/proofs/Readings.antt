@@ -15,7 +15,8 @@ use Rattle.laws.specs.Every.{with_next, there}
 use Rattle.laws.proofs.Fills.{tabulate_at}
 use Rattle.tags.specs.Tags.{places}
 use Rattle.outputs.specs.Reports.{motor_of}
-use Rattle.panel.specs.Panel.{Seat, Model}
+use Rattle.panel.specs.declared.Seat.{Seat}
+use Rattle.panel.specs.Panel.{Model}
 use Rattle.terminals.specs.Strip.{terminals}
 use Rattle.panel.specs.Sound.{Sound, seats_in}
 use Rattle.panel.specs.Calls.{Cells}

@@ -3,7 +3,8 @@
 use Rattle.std.specs.Prelude.{ℕ, cond, List, [], ◌∷◌, eqb}
 use Rattle.laws.specs.Fills.{tabulate}
 use Rattle.outputs.specs.Reports.{motor_of}
-use Rattle.panel.specs.Panel.{Seat, Model}
+use Rattle.panel.specs.declared.Seat.{Seat}
+use Rattle.panel.specs.Panel.{Model}
 use Rattle.terminals.specs.Strip.{terminals}
 use Rattle.panel.specs.Sound.{seats_in}
 use Rattle.panel.specs.Calls.{row, lent, unsound, CallRule}

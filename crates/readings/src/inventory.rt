@@ -5,36 +5,25 @@ ghost use Rattle.panel.specs.Panel.{model_of};
 ghost use Rattle.panel.specs.Calls.{no_cells};
 ghost use Rattle.readings.specs.Inventory.{inventory_rule, counted_of};
 
-use answers::{DONE, NOT_SOUND};
+use answers::Refusal;
 use panel::Panel;
-use panel::soundness::{is_sound, seats_sound};
 
-// The answer, the number of blinds, and the lowest free tag.
+// The number of blinds, and the lowest free tag.
 #[derive(Clone, Copy)]
 pub struct Counted {
-    pub answer: u8,
     pub blinds: u32,
     pub lowest: u32,
 }
 
-// Refused by 12, with both numbers 0.
+// Refused by 12.
 #[tactic(auto, unfolding(crate::specs::Inventory::inventory_rule))]
-pub fn inventory(panel: Panel) -> Counted
-    ensures { counted_of result (model_of panel) ≡ carried inventory_rule (model_of panel) no_cells }
+pub fn inventory(panel: &Panel) -> Result<Counted, Refusal>
+    ensures { counted_of result (model_of panel.now) ≡ carried inventory_rule (model_of panel.now) no_cells }
 {
-    let seated = seats_sound(panel.present, panel.terminals, panel.blinds);
-    if !is_sound(seated, panel.present, &panel.table.words, panel.table.count) {
-        return Counted {
-            answer: NOT_SOUND,
-            blinds: 0,
-            lowest: 0,
-        };
+    if !panel.is_sound() {
+        return Err(Refusal::NotSound);
     }
     let blinds = panel.present.count();
     let lowest = panel.present.lowest_free();
-    Counted {
-        answer: DONE,
-        blinds: blinds,
-        lowest: lowest,
-    }
+    Ok(Counted { blinds, lowest })
 }

@@ -43,16 +43,16 @@ none_holds none = refl
 -- ---- each ruler is somebody
 
 wind : Ruler.Wind ≡ Ruler.Nobody → ⊥
-wind e = let z : ◌≡◌ {A = ℕ} 0 1 = cc in omega arith
+wind e = cc
 
 rain : Ruler.Rain ≡ Ruler.Nobody → ⊥
-rain e = let z : ◌≡◌ {A = ℕ} 0 1 = cc in omega arith
+rain e = cc
 
 frost : Ruler.Frost ≡ Ruler.Nobody → ⊥
-frost e = let z : ◌≡◌ {A = ℕ} 0 1 = cc in omega arith
+frost e = cc
 
 forced : Ruler.Forced ≡ Ruler.Nobody → ⊥
-forced e = let z : ◌≡◌ {A = ℕ} 0 1 = cc in omega arith
+forced e = cc
 
 -- ---- what is dropped
 
@@ -127,7 +127,7 @@ module _ (value kind : ℕ) (b : Blind) where
       reads (later class (later w (later r (later f (later o (later p (here order))))))) =
           record { of_class = omega (arith, class); free = nobody w r f o; placed = p; order = order }
       reads (later class (later w (later r (later f (later o (later p (later q (later a x)))))))) =
-          let e = none_holds x in absurd (let z : ◌≡◌ {A = ℕ} 0 1 = cc in omega arith)
+          let e = none_holds x in absurd (cc)
 
       unruled : {n : ℕ} → WaitsAfter n value it → {ruler : Ruler} → (ruler ≡ Ruler.Nobody → ⊥) → Under ruler it → ⊥
       unruled d {ruler} somebody x = somebody (sym (only_ruler b ruler x.ruled) ∙ only_ruler b Ruler.Nobody (d.free x.command))

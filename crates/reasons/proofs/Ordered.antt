@@ -2,17 +2,16 @@
 -- the list that holds. Assumes nothing.
 use mathlib.Core.Path.{◌≡◌, refl, sym, ap, ◌∙◌}
 use mathlib.Core.Bool.{Bool, true, false, cond, ◌&&◌}
-use mathlib.Core.List.{List, [], ◌∷◌}
+use mathlib.Core.List.{List, ◌∷◌}
 use lib.Dec.{eqb, leb, ltb}
 use Prim.Native.Nat.{ℕ}
 use Rattle.answers.specs.Answers.{first}
 use Rattle.kinds.specs.Kinds.{mud, class_of}
 use Rattle.duties.specs.declared.Ruler.{Ruler}
 use Rattle.duties.specs.Rulers.{ruler_of}
-use Rattle.changes.specs.Changes.{changed}
 use Rattle.reasons.specs.declared.Reason.{Reason}
 use Rattle.reasons.specs.declared.Judged.{Judged}
-use Rattle.reasons.specs.Reasons.{ruler_number, is_under, under, lacks_position, waits, left, link_tests, reason_of}
+use Rattle.reasons.specs.Reasons.{ruler_number, is_under, under, unruled_tests, link_tests, reason_of}
 
 -- of the tests of the four rulers the one is passed that rules, or none
 ruled_first : (j : Judged) (rest : List (Bool × Reason))
@@ -35,21 +34,13 @@ ruled_first j rest = go (leb mud j.kind) (ruler_of j.before) (first Reason.Alrea
     go true Ruler.Frost otherwise = refl
     go true Ruler.Forced otherwise = refl
 
-pub in_order_lem : (value : ℕ) (j : Judged) {settled waiting placed free r : Reason}
-    → settled ≡ cond (changed j.before j.after) Reason.Acts Reason.AlreadySo
-    → waiting ≡ cond (waits j.after.motion) (Reason.Waiting (left j.after.motion)) settled
-    → placed ≡ cond (lacks_position value j) Reason.NoPosition waiting
-    → free ≡ cond (leb mud j.kind) (under (ruler_of j.before) placed) placed
+pub in_order_lem : (value : ℕ) (j : Judged) {unruled free r : Reason} → unruled ≡ first Reason.AlreadySo (unruled_tests value j)
+    → free ≡ cond (leb mud j.kind) (under (ruler_of j.before) unruled) unruled
     → r ≡ cond (ltb (class_of j.kind) value) Reason.WrongClass free → r ≡ reason_of value j
 unfolding reason_of link_tests first
-in_order_lem value j acts waiting-is placed-is free-is r-is =
+in_order_lem value j unruled-is free-is r-is =
     r-is
     ∙ ap (cond (ltb (class_of j.kind) value) Reason.WrongClass)
     (free-is
-    ∙ ap (λ (x : Reason). cond (leb mud j.kind) (under (ruler_of j.before) x) x)
-    (placed-is
-    ∙ ap (cond (lacks_position value j) Reason.NoPosition)
-    (waiting-is ∙ ap (cond (waits j.after.motion) (Reason.Waiting (left j.after.motion))) acts))
-    ∙ sym (ruled_first j
-    ((lacks_position value j, Reason.NoPosition) ∷ (waits j.after.motion, Reason.Waiting (left j.after.motion))
-    ∷ (changed j.before j.after, Reason.Acts) ∷ [])))
+    ∙ ap (λ (x : Reason). cond (leb mud j.kind) (under (ruler_of j.before) x) x) unruled-is
+    ∙ sym (ruled_first j (unruled_tests value j)))

@@ -104,6 +104,13 @@ left (Motion.Runs run) = 0
 
 -- "Wrong class (6), dropped under wind, rain, frost or forced .., dropped for lack of a valid position, waiting for the pause with the
 -- milliseconds left, or it acts. Where several apply, that is their order."
+abbrev pub unruled_tests : ℕ → Judged → List (Bool × Reason)
+unruled_tests value j =
+    (lacks_position value j, Reason.NoPosition)
+    ∷ (waits j.after.motion, Reason.Waiting (left j.after.motion))
+    ∷ (changed j.before j.after, Reason.Acts)
+    ∷ []
+
 unfoldable pub link_tests : ℕ → Judged → List (Bool × Reason)
 link_tests value j =
     (ltb (class_of j.kind) value, Reason.WrongClass)
@@ -111,10 +118,7 @@ link_tests value j =
     ∷ (is_under Ruler.Rain j, Reason.UnderRain)
     ∷ (is_under Ruler.Frost j, Reason.UnderFrost)
     ∷ (is_under Ruler.Forced j, Reason.UnderForced)
-    ∷ (lacks_position value j, Reason.NoPosition)
-    ∷ (waits j.after.motion, Reason.Waiting (left j.after.motion))
-    ∷ (changed j.before j.after, Reason.Acts)
-    ∷ []
+    ∷ unruled_tests value j
 
 -- "Whatever is left is 'already so'."
 unfoldable pub reason_of : ℕ → Judged → Reason

@@ -1,25 +1,24 @@
 // Document 02, K1, "Why didn't it move?": the reasons, and which of them holds of a link that was judged on a blind.
 #![tactic(auto)]
 
-ghost use Rattle.std.specs.Prelude.{◌≡◌, cond, ◌&&◌, eqb, leb, ltb};
+ghost use Rattle.std.specs.Prelude.{◌≡◌, cond, leb, ltb};
+ghost use Rattle.answers.specs.Answers.{first};
 ghost use Rattle.kinds.specs.Kinds as kinds;
 ghost use Rattle.duties.specs.Rulers.{ruler_of};
-ghost use Rattle.inputs.specs.Inputs.{aimed};
-ghost use Rattle.changes.specs.Changes.{changed};
-ghost use Rattle.reasons.specs.Reasons.{number_of, unjudged, judged, under, is_dropped, waits, left, reason_of};
+ghost use Rattle.reasons.specs.Reasons.{number_of, unjudged, judged, under, is_dropped, unruled_tests, reason_of};
 
-use answers::{DONE, NO_BLIND, NOT_OF_THE_CLASS, NOT_SOUND, OUT_OF_RANGE};
+use answers::Refusal;
 use blind::{Blind, Motion};
 use changes::is_changed;
 use duties::Ruler;
 use duties::rulers::ruler;
 use inputs::Aim;
 use inputs::orders::aim;
-use kinds::{MUD, SAPBP, class_of_kind};
+use kinds::{Kind, class_of_kind};
 use rules::heed;
 use values::Input;
 
-// In the order of document 02. The first three refuse the question.
+// In the order of document 02. The first three refuse the question. Not a Result: a refusal is told as a reason too.
 #[derive(Clone, Copy)]
 pub enum Reason {
     NotSound,
@@ -38,29 +37,22 @@ pub enum Reason {
 }
 
 impl Reason {
-    // The number that the paper gives it, and 0 for a reason without one.
+    // The number that the paper gives it, and 0 for a reason without one, as `number_of` has it.
     pub fn number(self) -> u8
         ensures { result ≡ number_of self }
     {
         match self {
-            Reason::NotSound => NOT_SOUND,
-            Reason::OutOfRange => OUT_OF_RANGE,
-            Reason::NoBlind => NO_BLIND,
-            Reason::NotLinked => DONE,
-            Reason::WrongClass => NOT_OF_THE_CLASS,
-            Reason::UnderWind => DONE,
-            Reason::UnderRain => DONE,
-            Reason::UnderFrost => DONE,
-            Reason::UnderForced => DONE,
-            Reason::NoPosition => DONE,
-            Reason::Waiting(_) => DONE,
-            Reason::Acts => DONE,
-            Reason::AlreadySo => DONE,
+            Reason::NotSound => u8::from(Refusal::NotSound),
+            Reason::OutOfRange => u8::from(Refusal::OutOfRange),
+            Reason::NoBlind => u8::from(Refusal::NoBlind),
+            Reason::WrongClass => u8::from(Refusal::NotOfTheClass),
+            _ => 0,
         }
     }
 }
 
-// The kind of the link that spoke last, and the blind before it spoke and after.
+// The kind of the link that spoke last, and the blind before it spoke and after. The kind is a number, as a link has it; before
+// the first link it is 0, and nobody asks.
 #[derive(Clone, Copy)]
 pub struct Judged {
     pub kind: u8,
@@ -93,68 +85,45 @@ impl Judged {
         }
     }
 
-    // From the last reason to the first: each stands back where the one before it holds.
+    // From the last reasons to the first: each stands back where the one before it holds.
     pub fn reason(self, value: u8) -> Reason
         ensures { result ≡ reason_of value self }
     {
-        let kind = self.kind;
-        let before = self.before;
-        let after = self.after;
-        let settled = settled(before, after);
-        let waiting = unless_waiting(after, settled);
-        let placed = unless_lacking(before, kind, value, waiting);
-        let free = unless_ruled(before, kind, placed);
-        unless_of_another_class(kind, value, free)
+        let unruled = self.unruled(value);
+        let free = unless_ruled(self.before, self.kind, unruled);
+        unless_of_another_class(self.kind, value, free)
+    }
+
+    // Where nobody rules. An order waits, whether it is new or not: what is left of the pause is told.
+    #[tactic(auto, unfolding(crate::specs::Reasons::lacks_position, answers::specs::Answers::first))]
+    fn unruled(self, value: u8) -> Reason
+        ensures { result ≡ first Reason.AlreadySo (unruled_tests value self) }
+    {
+        if self.kind == Kind::Sapbp as u8 && is_dropped(aim(self.before, value)) {
+            return Reason::NoPosition;
+        }
+        if let Motion::Waits(rest, _) = self.after.motion {
+            return Reason::Waiting(rest);
+        }
+        if is_changed(self.before, self.after) {
+            Reason::Acts
+        } else {
+            Reason::AlreadySo
+        }
     }
 }
 
-fn settled(before: Blind, after: Blind) -> Reason
-    ensures { result ≡ cond (changed before after) Reason.Acts Reason.AlreadySo }
+fn is_dropped(aim: Aim) -> bool
+    ensures { result ≡ is_dropped aim }
 {
-    let changed = is_changed(before, after);
-    if changed {
-        Reason::Acts
-    } else {
-        Reason::AlreadySo
-    }
-}
-
-// An order waits, whether it is new or not: what is left of the pause is told.
-fn unless_waiting(after: Blind, otherwise: Reason) -> Reason
-    ensures { result ≡ cond (waits after.motion) (Reason.Waiting (left after.motion)) otherwise }
-{
-    let motion = after.motion;
-    match motion {
-        Motion::Off(_) => otherwise,
-        Motion::Waits(rest, _) => Reason::Waiting(rest),
-        Motion::Runs(_) => otherwise,
-    }
-}
-
-fn unless_lacking(before: Blind, kind: u8, value: u8, otherwise: Reason) -> Reason
-    ensures { result ≡ cond (eqb kind kinds.sapbp && is_dropped (aimed value before)) Reason.NoPosition otherwise }
-{
-    if kind != SAPBP {
-        return otherwise;
-    }
-    unless_dropped(aim(before, value), otherwise)
-}
-
-fn unless_dropped(aim: Aim, otherwise: Reason) -> Reason
-    ensures { result ≡ cond (is_dropped aim) Reason.NoPosition otherwise }
-{
-    match aim {
-        Aim::Dropped => Reason::NoPosition,
-        Aim::Full(_) => otherwise,
-        Aim::To(_) => otherwise,
-    }
+    matches!(aim, Aim::Dropped)
 }
 
 // A ruler drops commands alone; what sets a flag is heeded under every ruler.
 fn unless_ruled(before: Blind, kind: u8, otherwise: Reason) -> Reason
     ensures { result ≡ cond (leb kinds.mud kind) (under (ruler_of before) otherwise) otherwise }
 {
-    if kind < MUD {
+    if kind < Kind::Mud as u8 {
         return otherwise;
     }
     under(ruler(before), otherwise)
@@ -175,6 +144,9 @@ fn under(ruler: Ruler, otherwise: Reason) -> Reason
 fn unless_of_another_class(kind: u8, value: u8, otherwise: Reason) -> Reason
     ensures { result ≡ cond (ltb (kinds.class_of kind) value) Reason.WrongClass otherwise }
 {
-    let above = class_of_kind(kind as u32) < value as u32;
-    if above { Reason::WrongClass } else { otherwise }
+    if class_of_kind(u32::from(kind)) < u32::from(value) {
+        Reason::WrongClass
+    } else {
+        otherwise
+    }
 }

@@ -1,80 +1,48 @@
-// Document 01, "Edits": remove a blind. The call judges first and then does its work, on its own panel; what judges gets
-// numbers, a single blind and the table. A refused call hands back the very panel. The place of a tag outside its range
-// is that of another, which is then not looked at.
+// Document 01, "Edits": remove a blind. The call judges first and then does its work, on its own panel. The table's own edit
+// judges the table; where the blind refuses there is no edit, and the table is only judged. A refused call hands back the
+// very panel.
 #![tactic(auto)]
 
-ghost use Rattle.std.specs.Prelude.{◌≡◌, cond, [], ◌∷◌};
-ghost use Rattle.answers.specs.Answers.{first};
-ghost use Rattle.table.specs.Links.{held_of};
-ghost use Rattle.links.specs.Edits.{unsound, table_drop, edited, edited_of};
+ghost use Rattle.std.specs.Prelude.{◌≡◌, cond};
+ghost use Rattle.answers.specs.Numbers.{number_of};
 ghost use Rattle.panel.specs.Calls.{no_cells, Does};
 ghost use Rattle.removals.specs.Removals.{remove_rule};
 
-use answers::{DONE, NOT_SOUND};
+use answers::{Answered, Refusal};
 use drops::remove_tag;
-use links::Edited;
 use panel::Panel;
-use panel::calls::Answered;
-use panel::soundness::{all_named, seats_sound};
+use panel::soundness::all_named;
 use seats::judge_named;
-use table::Table;
-use table::soundness::is_sound;
 use tags::PLACES;
 
 // Removes a blind and its links; refused by 12, 1, 2, 3, in this order.
-pub fn remove_blind(mut panel: Panel, tag: u64) -> Answered
+pub fn remove_blind(mut panel: Panel, tag: u64) -> Answered<Panel>
     ensures { Does (remove_rule tag) panel no_cells result no_cells }
 {
-    if !seats_sound(panel.present, panel.terminals, panel.blinds) {
-        return Answered {
-            answer: NOT_SOUND,
-            count: 0,
-            panel,
-        };
+    if !panel.seats_sound() {
+        return Answered::refused(panel, Refusal::NotSound);
     }
-    let present = panel.present;
-    let place = (tag % PLACES) as usize;
-    let blind = panel.blinds[place];
-    let own = judge_named(PLACES <= tag, present, tag, blind);
-    let table = panel.table;
-    let edited = drop_links(own, table, tag);
-    let named = all_named(present, &table.words, table.count);
-    let answer = if_sound(named, edited.answer);
-    if answer != DONE {
-        return Answered {
-            answer,
-            count: 0,
-            panel,
-        };
+    if !all_named(panel.present, &panel.table) {
+        return Answered::refused(panel, Refusal::NotSound);
     }
-    let shrunk = present.without(tag);
-    panel.present = shrunk;
-    let links = edited.table;
-    panel.table = links;
-    Answered {
-        answer: DONE,
-        count: edited.moved,
-        panel,
+    if let Err(refusal) = judge_named(PLACES <= tag, panel.seat(tag as usize)) {
+        let first = if_sound(panel.table.is_sound(), refusal);
+        return Answered::refused(panel, first);
+    }
+    let dropped = remove_tag(panel.table, tag);
+    match dropped.outcome {
+        Err(refusal) => Answered::refused(panel, refusal),
+        Ok(moved) => {
+            panel.present = panel.present.without(tag);
+            panel.table = dropped.state;
+            Answered::done(panel, moved)
+        }
     }
 }
 
-// The table's own edit, which judges the table; where the blind refuses there is no edit, and the table is only judged.
-#[tactic(auto, unfolding(answers::specs::Answers::first))]
-fn drop_links(own: u8, table: Table, tag: u64) -> Edited
-    ensures { (result.answer ≡ first own (unsound (held_of table) ∷ [])) × (own ≡ 0 → edited_of result ≡ edited (table_drop tag) (held_of table)) }
+// What refuses the blind; 12 comes before it where the table is not sound.
+fn if_sound(sound: bool, refusal: Refusal) -> Refusal
+    ensures { number_of result ≡ cond sound (number_of refusal) 12 }
 {
-    if own == DONE {
-        return remove_tag(table, tag);
-    }
-    Edited {
-        answer: if_sound(is_sound(&table.words, table.count), own),
-        moved: 0,
-        table,
-    }
-}
-
-fn if_sound(sound: bool, answer: u8) -> u8
-    ensures { result ≡ cond sound answer 12 }
-{
-    if sound { answer } else { NOT_SOUND }
+    if sound { refusal } else { Refusal::NotSound }
 }

@@ -7,13 +7,14 @@ mod start;
 
 use commands::lines::LONGEST;
 use intake::fetch;
-use output::send;
+use output::{Over, send};
 use panel::Panel;
 use replies::answer_line;
-use rows::{least, line_end, move_to_front};
+use rows::{line_end, move_to_front};
 use start::first_panel;
 use std::io::{Eprint, Print, Read};
 use std::rt::Files;
+use texts::Sheet;
 
 // The size of the row in which lines are read, and of the sheet on which their answers are written.
 const BUFFER: usize = 65_536;
@@ -30,19 +31,22 @@ struct Bench {
     panel: Panel,
     // How many lines were read.
     lines: u64,
-    // How far the sheet of answers is written.
-    at: usize,
     // How many bytes of an unfinished line stand at the front of the input.
     kept: usize,
-    is_open: bool,
 }
 
 fn main(rt: HostRuntime) {
     let mut input = [0u8; BUFFER];
     let mut out = [0u8; BUFFER];
-    let begun = first_panel(&rt);
-    if begun.good {
-        serve(&rt, &mut rt.stdin(), begun.panel, &mut input, &mut out);
+    let mut sheet = Sheet {
+        bytes: &mut out,
+        at: 0,
+    };
+    match first_panel(&rt) {
+        Ok(panel) => serve(&rt, &mut rt.stdin(), panel, &mut input, &mut sheet),
+        Err(error) => {
+            let _ = eprint!(rt; "replay: {error}\n");
+        }
     }
 }
 
@@ -52,22 +56,18 @@ fn serve<R: Files + Print + Eprint, I: Read>(
     source: &mut I,
     panel: Panel,
     input: &mut [u8],
-    out: &mut [u8],
+    sheet: &mut Sheet<'_>,
 ) {
     let mut bench = Bench {
         panel,
         lines: 0,
-        at: 0,
         kept: 0,
-        is_open: true,
     };
-    let mut turns = u64::MAX;
-    while turns > 0 {
-        if !bench.is_open {
+    for _ in 0..u64::MAX {
+        let Ok(next) = hear(rt, source, bench, input, sheet) else {
             return;
-        }
-        bench = hear(rt, source, bench, input, out);
-        turns -= 1;
+        };
+        bench = next;
     }
 }
 
@@ -77,105 +77,84 @@ fn hear<R: Files + Print + Eprint, I: Read>(
     source: &mut I,
     bench: Bench,
     input: &mut [u8],
-    out: &mut [u8],
-) -> Bench {
-    let heard = fetch(source, input, bench.kept);
-    let have = heard.have;
-    if heard.failed {
+    sheet: &mut Sheet<'_>,
+) -> Result<Bench, Over> {
+    let Ok(have) = fetch(source, input, bench.kept) else {
         let _ = rt.eprint("replay: the input could not be read\n");
-        return Bench {
-            is_open: false,
-            ..bench
-        };
-    }
+        return Err(Over);
+    };
     if have == 0 {
-        return finish(rt, bench, input, out);
+        finish(rt, bench, input, sheet)?;
+        return Err(Over);
     }
-    let next = answer_lines(rt, bench, &input[..have], out);
-    let start = next.kept;
-    let kept = move_to_front(input, start, left(start, have));
-    let sent = sent_off(rt, next, out);
-    Bench { kept, ..sent }
+    let next = answer_lines(rt, bench, &input[..have], sheet)?;
+    let open = have.saturating_sub(next.kept);
+    let kept = move_to_front(input, next.kept, open.min(MOST_KEPT));
+    send_off(rt, sheet)?;
+    Ok(Bench { kept, ..next })
 }
 
-// How many bytes of an unfinished line are kept.
-fn left(start: usize, have: usize) -> usize {
-    if have <= start {
-        return 0;
-    }
-    least(have - start, MOST_KEPT)
-}
-
-// Every line that has ended; what is kept then begins where the last of them ended.
+// Every line that has ended; what is kept then begins where the last of them ended, which an iterator over lines would not tell.
 fn answer_lines<R: Files + Print + Eprint>(
     rt: &R,
     bench: Bench,
     input: &[u8],
-    out: &mut [u8],
-) -> Bench {
+    sheet: &mut Sheet<'_>,
+) -> Result<Bench, Over> {
     let mut next = bench;
     let mut start = 0;
     let mut end = line_end(input, 0);
     while end < input.len() {
-        next = answer(rt, next, &input[start..end], out);
+        next = answer(rt, next, &input[start..end], sheet)?;
         start = end + 1;
         end = line_end(input, start);
     }
-    Bench {
+    Ok(Bench {
         kept: start,
         ..next
-    }
+    })
 }
 
 // Nothing is carried out any more where an answer did not go through. The answer that fills the sheet goes off after
 // those before it, so that only a long line makes a large write.
-fn answer<R: Files + Print + Eprint>(rt: &R, bench: Bench, line: &[u8], out: &mut [u8]) -> Bench {
-    if !bench.is_open {
-        return bench;
+fn answer<R: Files + Print + Eprint>(
+    rt: &R,
+    bench: Bench,
+    line: &[u8],
+    sheet: &mut Sheet<'_>,
+) -> Result<Bench, Over> {
+    let lines = bench.lines.saturating_add(1);
+    let before = sheet.at;
+    let panel = answer_line(bench.panel, lines, line, sheet);
+    let after = sheet.at;
+    if FULL <= after {
+        send(rt, sheet, 0, before)?;
+        send(rt, sheet, before, after)?;
+        sheet.at = 0;
     }
-    let number = one_more(bench.lines);
-    let before = bench.at;
-    let done = answer_line(bench.panel, number, line, out, before);
-    let panel = done.panel;
-    let at = done.at;
-    let next = Bench {
+    Ok(Bench {
         panel,
-        lines: number,
-        at,
+        lines,
         ..bench
-    };
-    if at < FULL {
-        return next;
-    }
-    let is_open = send(rt, out, 0, before) && send(rt, out, before, at);
-    Bench {
-        at: 0,
-        is_open,
-        ..next
-    }
-}
-
-fn one_more(lines: u64) -> u64 {
-    if lines < u64::MAX { lines + 1 } else { lines }
+    })
 }
 
 // A last line without a line feed is a line too; where none is kept, the line is empty and passed over.
-fn finish<R: Files + Print + Eprint>(rt: &R, bench: Bench, input: &[u8], out: &mut [u8]) -> Bench {
-    let kept = least(bench.kept, input.len());
-    let last = answer(rt, bench, &input[..kept], out);
-    let sent = sent_off(rt, last, out);
-    Bench {
-        is_open: false,
-        ..sent
-    }
+fn finish<R: Files + Print + Eprint>(
+    rt: &R,
+    bench: Bench,
+    input: &[u8],
+    sheet: &mut Sheet<'_>,
+) -> Result<(), Over> {
+    let kept = bench.kept.min(input.len());
+    answer(rt, bench, &input[..kept], sheet)?;
+    send_off(rt, sheet)
 }
 
-// What is on the sheet goes off, unless the output takes no more.
-fn sent_off<R: Files + Print + Eprint>(rt: &R, bench: Bench, out: &[u8]) -> Bench {
-    let is_open = bench.is_open && send(rt, out, 0, bench.at);
-    Bench {
-        at: 0,
-        is_open,
-        ..bench
-    }
+// What is on the sheet goes off.
+fn send_off<R: Files + Print + Eprint>(rt: &R, sheet: &mut Sheet<'_>) -> Result<(), Over> {
+    let end = sheet.at;
+    send(rt, sheet, 0, end)?;
+    sheet.at = 0;
+    Ok(())
 }

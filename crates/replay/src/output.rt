@@ -1,11 +1,11 @@
 // Answers on their way out. Whoever reads them gets whole lines, also where the output takes no more.
-use intake::fetch_all;
-use rows::least;
+use intake::fetch;
 use std::fs::{OpenFile, OpenOptions};
 use std::io::{Eprint, Print};
 use std::rt::Files;
 use std::str::from_utf8;
 use std::{fs, io};
+use texts::Sheet;
 
 // Standard output as a file, and what the system tells of it: first a line with the place in it, "pos:", a tab, a number.
 const OUTPUT: &str = "/proc/self/fd/1";
@@ -15,20 +15,29 @@ const TOLD: &str = "/proc/self/fdinfo/1";
 // Bytes in which the line with the place stands whole.
 const PLACE_LINE: usize = 64;
 
-// Writes these answers out, and says whether they went through.
-pub(crate) fn send<R: Files + Print + Eprint>(rt: &R, out: &[u8], from: usize, to: usize) -> bool {
-    let end = least(to, out.len());
-    let start = least(from, end);
-    let taken = write_out(rt, &out[start..end]);
+// Nothing is carried out any more: the input has ended or fails, or the output takes no more.
+#[derive(Clone, Copy)]
+pub(crate) struct Over;
+
+// Writes the answers of this part of the sheet out.
+pub(crate) fn send<R: Files + Print + Eprint>(
+    rt: &R,
+    sheet: &Sheet<'_>,
+    from: usize,
+    to: usize,
+) -> Result<(), Over> {
+    let end = to.min(sheet.bytes.len());
+    let start = from.min(end);
+    let taken = write_out(rt, &sheet.bytes[start..end]);
     if taken == end - start {
-        return true;
+        return Ok(());
     }
     let _ = take_back(rt, taken as u64);
     let _ = rt.eprint("replay: the answers could not be written\n");
-    false
+    Err(Over)
 }
 
-// How many of these bytes were taken: the first write that fails or takes nothing is the last.
+// How many of these bytes were taken: the first write that fails or takes nothing is the last. Each write tells how far it came.
 fn write_out<R: Print>(rt: &R, bytes: &[u8]) -> usize {
     let mut taken = 0;
     while taken < bytes.len() {
@@ -57,12 +66,18 @@ fn take_back<R: Files>(rt: &R, taken: u64) -> io::Result<()> {
     file.set_len(here - taken)
 }
 
-// Where in its file standard output stands.
+// Where in its file standard output stands. What was told before a read failed counts, so this is no `fetch_all`.
 fn place<R: Files>(rt: &R) -> io::Result<Option<u64>> {
     let mut bytes = [0u8; PLACE_LINE];
     let mut told = fs::open(rt, TOLD)?;
-    let heard = fetch_all(&mut told, &mut bytes);
-    Ok(place_in(&bytes[..heard.have]))
+    let mut have = 0;
+    while let Ok(next) = fetch(&mut told, &mut bytes, have) {
+        if next <= have {
+            break;
+        }
+        have = next;
+    }
+    Ok(place_in(&bytes[..have]))
 }
 
 fn place_in(told: &[u8]) -> Option<u64> {

@@ -1,16 +1,16 @@
 -- A file in a line: the line is not too long, so its bytes fit on the buffer, and the front of that is the file.
 -- Assumes nothing.
-use Prim.Native.Nat.{ℕ, ◌+◌, ◌-◌, ◌≤◌}
+use Prim.Native.Nat.{ℕ, ◌+◌, ◌≤◌}
 use native.Mathlib.Omega.{arith}
 use mathlib.Core.Path.{◌≡◌, refl, sym, ap, ◌∙◌}
 use mathlib.Core.Bool.{Bool, true, false, cond, true≢false}
 use mathlib.Core.List.{List, ◌++◌}
-use lib.ListN.{length, take, drop, length-take, length-drop}
+use lib.ListN.{length, take, drop}
 use lib.Seq.{take_at}
 use lib.Dec.{ltb}
 use borrow.Author.Tests.{ltb-false}
 use Rattle.texts.specs.Sheet.{Sheet, sheet, puts}
-use Rattle.texts.proofs.Sheet.{fits}
+use Rattle.texts.proofs.Sheets.{fits}
 use Rattle.file_word.specs.FileWord.{unpacked}
 use Rattle.file_word.proofs.Unpacking.{unpacked_no_longer}
 use Rattle.commands.specs.declared.Fault.{Fault}
@@ -34,11 +34,10 @@ file_short line means file = go (ltb longest (length line)) _ refl (sym (ap is_f
     go true otherwise e is = absurd (true≢false (sym is))
     go false otherwise e is = ltb-false _ _ e
 
--- ---- a part of it, unpacked, is no longer
+-- ---- a word of it, unpacked, is no longer
 
-pub part_fits : (line : List ℕ) (from to : ℕ) → length line ≤ longest → length (unpacked (take (to - from) (drop from line))) ≤ longest
-part_fits line from to short =
-    omega (arith, short, unpacked_no_longer (take (to - from) (drop from line)), length-take (to - from) (drop from line), length-drop from line)
+pub word_fits : (line word : List ℕ) → length line ≤ longest → length word ≤ length line → length (unpacked word) ≤ longest
+word_fits line word short within = omega (arith, short, within, unpacked_no_longer word)
 
 -- ---- a text that fits, put on a sheet from its front
 

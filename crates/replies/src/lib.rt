@@ -4,41 +4,33 @@
 
 mod files;
 
-ghost use Rattle.std.specs.Prelude.{◌≡◌};
 ghost use Rattle.panel.specs.Panel.{model_of};
-ghost use Rattle.texts.specs.Sheet.{sheet};
-ghost use Rattle.desk.specs.Desk.{desk_of};
-ghost use Rattle.replies.specs.Replies.{ended, line_done};
+ghost use Rattle.texts.specs.Lent.{on};
+ghost use Rattle.desk.specs.Desk.{Leaves};
+ghost use Rattle.replies.specs.Replies.{line_done};
 
 use crate::files::load;
 use commands::Meaning;
 use commands::lines::read_line;
-use desk::{After, carry_out};
+use desk::carry_out;
 use fault_text::put_error;
 use panel::Panel;
-use texts::put_text;
+use texts::Sheet;
 
 // Carries out a line, given without its line feed, and writes its answer. The number is the line's own.
-#[tactic(auto, unfolding(crate::specs::Replies::line_done, crate::specs::Replies::replied))]
-pub fn answer_line(panel: Panel, number: u64, line: &[u8], out: &mut [u8], at: usize) -> After
-    ensures { desk_of result out.new ≡ line_done number line.now (model_of panel) (sheet out.old at) }
+#[tactic(auto, unfolding(crate::specs::Replies::line_done, crate::specs::Replies::replied, texts::specs::Sheet::puts))]
+pub fn answer_line(panel: Panel, number: u64, line: &[u8], sheet: &mut Sheet<'_>) -> Panel
+    ensures { Leaves (line_done number line.now (model_of panel) (on sheet.old)) result sheet.old sheet.new }
 {
-    let meaning = read_line(line);
-    match meaning {
-        Meaning::Silent => After { panel, at },
-        Meaning::Call(command) => end_line(carry_out(panel, command, out, at), out),
+    let next = match read_line(line) {
+        Meaning::Silent => return panel,
+        Meaning::Call(command) => carry_out(panel, command, sheet),
+        Meaning::File => load(line, sheet),
         Meaning::Wrong(fault) => {
-            let error = put_error(out, at, number, fault);
-            end_line(After { panel, at: error }, out)
+            put_error(sheet, number, fault);
+            panel
         }
-        Meaning::File => end_line(load(line, out, at), out),
-    }
-}
-
-// The line feed after an answer.
-fn end_line(after: After, out: &mut [u8]) -> After
-    ensures { desk_of result out.new ≡ ended (desk_of after out.old) }
-{
-    let next = put_text(out, after.at, b"\n");
-    After { at: next, ..after }
+    };
+    sheet.put(b'\n');
+    next
 }

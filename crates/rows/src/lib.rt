@@ -1,23 +1,28 @@
 // Lines in a row of bytes that arrives in parts: where a line ends, and what of it waits at the front for the rest.
 #![tactic(auto)]
 
-ghost use Rattle.std.specs.Prelude.{◌+◌, min, ◌≡◌, length, drop};
+ghost use Rattle.std.specs.Prelude.{◌+◌, eqb, not, ◌≡◌, length, drop};
+ghost use Rattle.std.specs.List.{prefix_len};
 ghost use Rattle.rows.specs.Lines.{until, movable, moved};
 
 const LINE_FEED: u8 = 10;
 
-// The place of the first such byte from here on, or the end of the row.
+// The place of the first such byte from here on, or the end of the row: no Option, since most callers take the row up to it.
+#[tactic(auto, using(std::proofs::lemmas::List::take_rest, words::proofs::NextWord::front_counts, words::proofs::NextWord::front_past, words::proofs::NextWord::front_within))]
 pub fn place_of(mark: u8, bytes: &[u8], from: usize) -> usize
     ensures { result ≡ from + until mark (drop from bytes.now) }
 {
-    let mut at = from;
-    while at < bytes.len() {
-        if bytes[at] == mark {
-            break;
-        }
-        at += 1;
+    match bytes.get(from..) {
+        Some(rest) => from + others(mark, rest),
+        None => from,
     }
-    at
+}
+
+// How many bytes stand before the first such byte.
+fn others(mark: u8, row: &[u8]) -> usize
+    ensures { result ≡ prefix_len (λ byte. not (eqb byte mark)) row.now }
+{
+    row.iter().take_while(|byte| **byte != mark).count()
 }
 
 // The end of the line that begins here: the place of its line feed, or the end of the row.
@@ -38,15 +43,6 @@ pub fn move_to_front(bytes: &mut [u8], start: usize, count: usize) -> usize
     if bytes.len() - start < count {
         return 0;
     }
-    for i in 0..count {
-        bytes[i] = bytes[start + i];
-    }
+    bytes.copy_within(start..start + count, 0);
     count
-}
-
-// The lesser of two numbers: how far a row is to be read, and how long it is.
-pub fn least(a: usize, b: usize) -> usize
-    ensures { result ≡ min a b }
-{
-    if a < b { a } else { b }
 }

@@ -14,15 +14,12 @@ pub fn rewrite(blind: Blind, params: Params) -> Blind
     ensures { result ≡ rewritten params blind }
 {
     let before = duty(blind);
-    let flags = blind.flags;
-    let last = blind.last;
     ruled(
         Blind {
             params,
-            flags,
-            last,
             place: Place::UNKNOWN,
             motion: Motion::Off(params.rpt),
+            ..blind
         },
         before,
     )

@@ -7,23 +7,15 @@ mod orders;
 
 use heights::Direction;
 
-// The direction in which the motor started last; a fresh blind has either.
-#[derive(Clone, Copy)]
-pub enum Last {
-    Either,
-    Up,
-    Down,
-}
-
 // What a run goes for. It is part of the run: a step may be as long as a full run.
-#[derive(Clone, Copy)]
+#[derive(Clone, Copy, PartialEq, Eq)]
 pub enum Goal {
     Full,
     Step,
     Position,
 }
 
-#[derive(Clone, Copy)]
+#[derive(Clone, Copy, PartialEq, Eq)]
 pub struct Run {
     pub direction: Direction,
     pub goal: Goal,

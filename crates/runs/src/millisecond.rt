@@ -12,19 +12,16 @@ impl Run {
         ensures { result ≡ min dt (self.length - 1) }
     {
         let most = left(self.length, 1);
-        if dt < most as u64 { dt as u32 } else { most }
+        dt.min(u64::from(most)) as u32
     }
 
     // The place of a blind whose run is over, from the place that it has come to.
     pub fn arrived_at(self, place: Place, params: Params) -> Place
         ensures { result ≡ arrived_at self.goal self.direction params place }
     {
-        let direction = self.direction;
-        let goal = self.goal;
-        match goal {
-            Goal::Full => heights::end(direction, params),
-            Goal::Step => place,
-            Goal::Position => place,
+        match self.goal {
+            Goal::Full => heights::end(self.direction, params),
+            Goal::Step | Goal::Position => place,
         }
     }
 }
@@ -33,5 +30,5 @@ impl Run {
 pub fn left(time: u32, gone: u32) -> u32
     ensures { result ≡ time - gone }
 {
-    if time < gone { 0 } else { time - gone }
+    time.saturating_sub(gone)
 }

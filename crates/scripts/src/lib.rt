@@ -2,14 +2,16 @@
 // as in `time 499 = 0 0`. A line without the sign, a comment or an empty one, is to be answered by nothing.
 #![tactic(auto)]
 
-ghost use Rattle.std.specs.Prelude.{◌-◌, ◌≡◌, ◌&&◌, take};
+ghost use Rattle.std.specs.Prelude.{◌≡◌};
 ghost use Rattle.texts.specs.Text.{same as ofText·same};
+ghost use Rattle.texts.specs.Lent.{on};
 ghost use Rattle.rows.specs.Lines.{lines};
-ghost use Rattle.scripts.specs.Scripts.{course_of, tried, followed, script_holds};
+ghost use Rattle.scripts.specs.Scripts.{course_of, answer_on, tried, followed, script_holds};
 
 use panel::Panel;
 use replies::answer_line;
-use rows::{least, line_end, place_of};
+use rows::{line_end, place_of};
+use texts::Sheet;
 use words::is_same;
 
 const EQUALS: u8 = b'=';
@@ -17,7 +19,8 @@ const EQUALS: u8 = b'=';
 // How many bytes stand before the answer: the sign and a space.
 const BEFORE_ANSWER: usize = 2;
 
-// A panel on its way through a script, and whether every answer so far was the expected one.
+// A panel on its way through a script, and whether every answer so far was the expected one. No Option: after a wrong answer
+// the script goes on, as its definition `followed` does.
 #[derive(Clone, Copy)]
 struct Trial {
     panel: Panel,
@@ -29,13 +32,15 @@ struct Trial {
 pub fn holds(script: &[u8], sheet: &mut [u8]) -> bool
     ensures { result ≡ script_holds script.now sheet.old }
 {
-    let panel = Panel::empty();
-    let begun = Trial { panel, same: true };
-    let ended = follow(begun, script, sheet);
-    ended.same
+    let begun = Trial {
+        panel: Panel::empty(),
+        same: true,
+    };
+    follow(begun, script, sheet).same
 }
 
-// The lines of a script one after the other.
+// The lines of a script one after the other. `split` would make an empty line more of what follows the last line feed.
+#[tactic(auto, using(rows::proofs::NextLine::place_within))]
 fn follow(trial: Trial, script: &[u8], sheet: &mut [u8]) -> Trial
     ensures { course_of result sheet.new ≡ followed (lines script.now) (course_of trial sheet.old) }
 {
@@ -49,34 +54,26 @@ fn follow(trial: Trial, script: &[u8], sheet: &mut [u8]) -> Trial
     next
 }
 
+#[tactic(auto, using(crate::proofs::LineByLine::line_tried))]
 fn try_line(trial: Trial, line: &[u8], sheet: &mut [u8]) -> Trial
     ensures { course_of result sheet.new ≡ tried line.now (course_of trial sheet.old) }
 {
     let sign = place_of(EQUALS, line, 0);
-    let after = answer_line(trial.panel, 1, &line[..sign], sheet, 0);
-    let from = least(sign + BEFORE_ANSWER, line.len());
-    let right = is_answer(&line[from..], sheet, after.at);
-    let panel = after.panel;
-    let same = both(trial.same, right);
+    let mut answers = Sheet {
+        bytes: sheet,
+        at: 0,
+    };
+    let panel = answer_line(trial.panel, 1, &line[..sign], &mut answers);
+    let from = (sign + BEFORE_ANSWER).min(line.len());
+    let right = is_answer(&line[from..], &answers);
+    let same = trial.same & right;
     Trial { panel, same }
 }
 
 // Whether this is the answer on the sheet, without its line feed.
-fn is_answer(expected: &[u8], sheet: &[u8], at: usize) -> bool
-    ensures { result ≡ ofText·same expected.now (take (at - 1) sheet.now) }
+fn is_answer(expected: &[u8], sheet: &Sheet<'_>) -> bool
+    ensures { result ≡ ofText·same expected.now (answer_on (on sheet.now)) }
 {
-    let end = least(one_less(at), sheet.len());
-    is_same(expected, &sheet[..end])
-}
-
-fn one_less(n: usize) -> usize
-    ensures { result ≡ n - 1 }
-{
-    if n == 0 { 0 } else { n - 1 }
-}
-
-fn both(a: bool, b: bool) -> bool
-    ensures { result ≡ (a && b) }
-{
-    if a { b } else { false }
+    let end = sheet.at.saturating_sub(1).min(sheet.bytes.len());
+    is_same(expected, &sheet.bytes[..end])
 }

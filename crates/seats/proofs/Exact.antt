@@ -9,7 +9,8 @@ use Rattle.laws.specs.Decides.{Decides}
 use Rattle.laws.proofs.Deciding.{le, lt, and, said}
 use Rattle.laws.proofs.Any.{either_left, either_right}
 use Rattle.outputs.specs.Reports.{busy}
-use Rattle.panel.specs.Panel.{Seat, Model, is_there, present_in}
+use Rattle.panel.specs.declared.Seat.{Seat}
+use Rattle.panel.specs.Panel.{Model, is_there, present_in}
 use Rattle.terminals.specs.Strip.{terminals}
 use Rattle.panel.specs.Sound.{Tagged}
 use Rattle.seats.specs.Seats.{some_seat, stands_within, in_use, busy_above, busy_from, passes_end, would_pass, is_busy}

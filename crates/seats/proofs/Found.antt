@@ -9,7 +9,8 @@ use borrow.Author.Tests.{le-leb, lt-ltb}
 use Rattle.laws.proofs.Choices.{both, never_both}
 use Rattle.laws.proofs.Any.{Passes, any_found, any_made, any_none}
 use Rattle.tags.specs.Tags.{places}
-use Rattle.panel.specs.Panel.{Seat, Model}
+use Rattle.panel.specs.declared.Seat.{Seat}
+use Rattle.panel.specs.Panel.{Model}
 use Rattle.terminals.specs.Strip.{terminals}
 use Rattle.panel.specs.Sound.{Tagged, seats_in}
 use Rattle.seats.specs.Seats.{some_seat, stands_within, in_use, passes_end, would_pass}

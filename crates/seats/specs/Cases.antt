@@ -3,7 +3,8 @@
 use Rattle.std.specs.Prelude.{ℕ, ◌+◌, ◌≤◌, ◌<◌, ◌≡◌, true}
 use Rattle.std.proofs.Math.Option.{some}
 use Rattle.outputs.specs.Reports.{busy}
-use Rattle.panel.specs.Panel.{Seat, Model}
+use Rattle.panel.specs.declared.Seat.{Seat}
+use Rattle.panel.specs.Panel.{Model}
 use Rattle.terminals.specs.Strip.{terminals}
 
 -- There is a blind with this tag.

@@ -6,7 +6,8 @@ use Rattle.laws.specs.Any.{any}
 use Rattle.answers.specs.Answers.{Check}
 use Rattle.blind.specs.declared.Blind.{Blind}
 use Rattle.outputs.specs.Reports.{busy}
-use Rattle.panel.specs.Panel.{Seat, Model, present_in}
+use Rattle.panel.specs.declared.Seat.{Seat}
+use Rattle.panel.specs.Panel.{Model, present_in}
 use Rattle.terminals.specs.Strip.{terminals}
 use Rattle.panel.specs.Sound.{seats_in}
 

@@ -1,78 +1,57 @@
-// Document 01, "Numbers the panel answers": what the edits ask of one tag, its terminal and its blind; of tag after tag in
-// the call's own body, or of the tag that the call names. An absent tag carries nothing, whatever stands at its place.
+// Document 01, "Numbers the panel answers": what the edits ask of one seat, its terminal and its blind. They ask it
+// of each seat in turn, or of the one that they name.
 #![tactic(auto)]
 
-ghost use Rattle.std.specs.Prelude.{◌≡◌, not, ◌&&◌, [], ◌∷◌};
+ghost use Rattle.std.specs.Prelude.{◌≡◌, not, [], ◌∷◌, IfOk, Some};
+ghost use Rattle.answers.specs.Numbers.{answer_of};
 ghost use Rattle.answers.specs.Answers.{refusal};
-ghost use Rattle.outputs.specs.Reports.{busy};
-ghost use Rattle.tags.specs.Tags.{tags_of};
+ghost use Rattle.panel.specs.Panel.{found, is_there};
 ghost use Rattle.panel.specs.Calls.{outside};
-ghost use Rattle.seats.specs.Seats.{within, busy_for, passing};
+ghost use Rattle.seats.specs.Seats.{stands_within, busy_above, passes_end, is_busy};
 
-use answers::{BUSY, DONE, NO_BLIND, OUT_OF_RANGE};
-use blind::Blind;
-use tags::Tags;
+use answers::Refusal;
+use panel::Seat;
 use terminals::TERMINALS;
 
-// Whether a tag stands at a terminal from `from` on and below `end`.
-pub fn stands_within(present: Tags, tag: usize, terminal: u8, from: u64, end: u64) -> bool
-    ensures { result ≡ (tags_of present tag && within from end terminal) }
+// Whether the terminal is one from `from` on and below `end`.
+pub fn stands_within(seat: Seat, from: u64, end: u64) -> bool
+    ensures { result ≡ stands_within from end seat }
 {
-    if !present.has(tag as u64) {
-        return false;
-    }
-    let place = terminal as u64;
-    if place < from {
-        return false;
-    }
-    place < end
+    (from..end).contains(&u64::from(seat.terminal))
 }
 
-// Whether a tag stands at a terminal from `from` on and its blind is busy.
-pub fn is_busy_above(present: Tags, tag: usize, terminal: u8, blind: Blind, from: u64) -> bool
-    ensures { result ≡ (tags_of present tag && busy_for from terminal blind) }
+// Whether the terminal is one from `from` on and the blind is busy.
+pub fn is_busy_above(seat: Seat, from: u64) -> bool
+    ensures { result ≡ busy_above from seat }
 {
-    if !present.has(tag as u64) {
-        return false;
-    }
-    if (terminal as u64) < from {
-        return false;
-    }
-    outputs::is_busy(blind)
+    from <= u64::from(seat.terminal) && outputs::is_busy(seat.blind)
 }
 
-// Whether a tag's terminal from `from` on would pass the end of the strip by rising n.
+// Whether the terminal, if it is one from `from` on, would pass the end of the strip by rising n.
 // Compared without a sum, so that any n may be asked for.
-pub fn passes_end(present: Tags, tag: usize, terminal: u8, from: u64, n: u64) -> bool
-    ensures { result ≡ (tags_of present tag && passing from n terminal) }
+#[tactic(auto, using(crate::proofs::Strip::left_over))]
+pub fn passes_end(seat: Seat, from: u64, n: u64) -> bool
+    ensures { result ≡ passes_end from n seat }
 {
-    if !present.has(tag as u64) {
-        return false;
-    }
-    let place = terminal as u64;
-    if place < from {
-        return false;
-    }
-    if TERMINALS <= place {
-        return true;
-    }
-    TERMINALS - place <= n
+    let place = u64::from(seat.terminal);
+    from <= place && TERMINALS.saturating_sub(place) <= n
 }
 
-// What refuses a blind that is named, from what stands at its place: an argument is outside its range, the blind is not
-// there, or it is busy.
+// The seat of a blind that is named, or what refuses it: an argument is outside its range, the blind is not there, or it is
+// busy.
 #[tactic(auto, unfolding(answers::specs::Answers::first))]
-pub fn judge_named(out: bool, present: Tags, tag: u64, blind: Blind) -> u8
-    ensures { result ≡ refusal (outside out ∷ (not (tags_of present tag), 2) ∷ (busy blind, 3) ∷ []) }
+pub fn judge_named(out: bool, seat: Option<Seat>) -> Result<Seat, Refusal>
+    ensures answer { answer_of result ≡ refusal (outside out ∷ (not (is_there (found seat)), 2) ∷ (is_busy (found seat), 3) ∷ []) }
+    ensures named { IfOk result (λ named. seat ≡ Some named) }
 {
     if out {
-        return OUT_OF_RANGE;
+        return Err(Refusal::OutOfRange);
     }
-    if !present.has(tag) {
-        return NO_BLIND;
+    let Some(named) = seat else {
+        return Err(Refusal::NoBlind);
+    };
+    if outputs::is_busy(named.blind) {
+        return Err(Refusal::Busy);
     }
-    if outputs::is_busy(blind) {
-        return BUSY;
-    }
-    DONE
+    Ok(named)
 }

@@ -1,24 +1,25 @@
 // The numbers of an answer line: the number of the table, and the count with it.
-ghost use Rattle.std.specs.Prelude.{◌≡◌};
-ghost use Rattle.texts.specs.Sheet.{sheet, puts};
+ghost use Rattle.texts.specs.Lent.{Puts};
+ghost use Rattle.answers.specs.Numbers.{answer_of, count_of};
 ghost use Rattle.shows.specs.Numbers.{spaced, counted};
 
+use answers::{Refusal, number};
 use decimals::put_number;
-use texts::put_text;
+use texts::Sheet;
 
 // A number with a space before it.
-#[tactic(auto, using(texts::proofs::Sheet::put_joined), unfolding(texts::specs::Text::text, laws::specs::Fills::tabulate, crate::specs::Numbers::spaced))]
-pub fn put_spaced(out: &mut [u8], at: usize, n: u64) -> usize
-    ensures { sheet out.new result ≡ puts (spaced n) (sheet out.old at) }
+#[tactic(auto, using(texts::proofs::Sheets::pieces), unfolding(texts::specs::Text::text, laws::specs::Fills::tabulate, crate::specs::Numbers::spaced))]
+pub fn put_spaced(sheet: &mut Sheet<'_>, n: u64)
+    ensures { Puts (spaced n) sheet.old sheet.new }
 {
-    let space = put_text(out, at, b" ");
-    put_number(out, space, n)
+    sheet.put(b' ');
+    put_number(sheet, n);
 }
 
-#[tactic(auto, using(texts::proofs::Sheet::put_joined), unfolding(crate::specs::Numbers::counted))]
-pub fn put_counted(out: &mut [u8], at: usize, number: u8, count: u64) -> usize
-    ensures { sheet out.new result ≡ puts (counted number count) (sheet out.old at) }
+#[tactic(auto, using(texts::proofs::Sheets::pieces), unfolding(crate::specs::Numbers::counted))]
+pub fn put_counted(sheet: &mut Sheet<'_>, outcome: Result<u64, Refusal>)
+    ensures { Puts (counted (answer_of outcome) (count_of outcome)) sheet.old sheet.new }
 {
-    let next = put_number(out, at, number as u64);
-    put_spaced(out, next, count)
+    put_number(sheet, u64::from(number(outcome)));
+    put_spaced(sheet, outcome.unwrap_or(0));
 }

@@ -3,6 +3,7 @@
 use Prim.Native.Nat.{ℕ}
 use mathlib.Core.Path.{◌≡◌, refl, sym, ap, ◌∙◌}
 use mathlib.Core.Bool.{true}
+use Rattle.std.specs.Prelude.{Option, Some, None}
 use Rattle.laws.specs.Decides.{Decides}
 use Rattle.laws.proofs.Choices.{never_both}
 use Rattle.laws.proofs.Deciding.{le, lt, eq, always, and, neither, said}
@@ -10,7 +11,6 @@ use Rattle.params.specs.declared.Params.{Params}
 use Rattle.params.proofs.Ranges.{params_decide}
 use Rattle.heights.specs.declared.Direction.{Direction}
 use Rattle.heights.specs.Heights.{full_time, bottom}
-use Rattle.runs.specs.declared.Last.{Last}
 use Rattle.runs.specs.declared.Goal.{Goal}
 use Rattle.runs.specs.declared.Run.{Run}
 use Rattle.runs.specs.Orders.{last_of, is_last}
@@ -25,15 +25,14 @@ own_last : (d : Direction) → is_last d (last_of d) ≡ true
 own_last Direction.Up = refl
 own_last Direction.Down = refl
 
-is_last_lem : (d : Direction) (last : Last) → is_last d last ≡ true → last ≡ last_of d
-is_last_lem Direction.Up Last.Either e = never_both true refl (sym e)
-is_last_lem Direction.Up Last.Up e = refl
-is_last_lem Direction.Up Last.Down e = never_both true refl (sym e)
-is_last_lem Direction.Down Last.Either e = never_both true refl (sym e)
-is_last_lem Direction.Down Last.Up e = never_both true refl (sym e)
-is_last_lem Direction.Down Last.Down e = refl
+is_last_lem : (d : Direction) (last : Option Direction) → is_last d last ≡ true → last ≡ last_of d
+is_last_lem d None e = never_both true refl (sym e)
+is_last_lem Direction.Up (Some Direction.Up) e = refl
+is_last_lem Direction.Up (Some Direction.Down) e = never_both true refl (sym e)
+is_last_lem Direction.Down (Some Direction.Up) e = never_both true refl (sym e)
+is_last_lem Direction.Down (Some Direction.Down) e = refl
 
-pub last_decides : (d : Direction) (last : Last) → Decides (is_last d last) (last ≡ last_of d)
+pub last_decides : (d : Direction) (last : Option Direction) → Decides (is_last d last) (last ≡ last_of d)
 last_decides d last = record { holds = is_last_lem d last; tested = λ e. ap (is_last d) e ∙ own_last d }
 
 -- ---- the clauses
@@ -48,7 +47,7 @@ whole_decides p d Goal.Full length = eq length (full_time d p)
 whole_decides p d Goal.Step length = eq length p.sst
 whole_decides p d Goal.Position length = always
 
-wait_decides : (p : Params) (last : Last) (rest : ℕ) (run : Run) → Decides (sound_wait p last rest run) (SoundWait p last rest run)
+wait_decides : (p : Params) (last : Option Direction) (rest : ℕ) (run : Run) → Decides (sound_wait p last rest run) (SoundWait p last rest run)
 unfolding sound_wait
 wait_decides p last rest run =
     said
@@ -59,13 +58,13 @@ wait_decides p last rest run =
     (and (run_decides p run)
     (and (whole_decides p run.direction run.goal run.length) (neither (last_decides run.direction last))))))
 
-running_decides : (p : Params) (last : Last) (run : Run) → Decides (sound_running p last run) (SoundRunning p last run)
+running_decides : (p : Params) (last : Option Direction) (run : Run) → Decides (sound_running p last run) (SoundRunning p last run)
 unfolding sound_running
 running_decides p last run =
     said (λ h. record { length = h.0; own = h.1 }) (λ s. (s.length, s.own))
     (and (run_decides p run) (last_decides run.direction last))
 
-motion_decides : (p : Params) (last : Last) (motion : Motion) → Decides (sound_motion p last motion) (SoundMotion p last motion)
+motion_decides : (p : Params) (last : Option Direction) (motion : Motion) → Decides (sound_motion p last motion) (SoundMotion p last motion)
 unfolding sound_motion
 motion_decides p last (Motion.Off rest) = le rest p.rpt
 motion_decides p last (Motion.Waits rest run) = wait_decides p last rest run

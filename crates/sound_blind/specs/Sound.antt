@@ -1,11 +1,10 @@
 -- Document 01, "Sound", as far as it speaks of one blind: first to be read, then as a test.
 -- Assumes nothing.
-use Rattle.std.specs.Prelude.{ℕ, ◌≤◌, ◌<◌, ◌≡◌, Bool, true, not, ◌&&◌, eqb, ltb, leb}
+use Rattle.std.specs.Prelude.{ℕ, ◌≤◌, ◌<◌, ◌≡◌, Bool, true, not, ◌&&◌, eqb, ltb, leb, Option}
 use Rattle.params.specs.declared.Params.{Params}
 use Rattle.params.specs.Parameters.{SoundParams, in_range}
 use Rattle.heights.specs.declared.Direction.{Direction}
 use Rattle.heights.specs.Heights.{full_time, bottom}
-use Rattle.runs.specs.declared.Last.{Last}
 use Rattle.runs.specs.declared.Goal.{Goal}
 use Rattle.runs.specs.declared.Run.{Run}
 use Rattle.runs.specs.Orders.{last_of, is_last}
@@ -36,7 +35,7 @@ abbrev pub Whole : Params → Run → Type 0
 Whole p run = WholeOf p run.direction run.goal run.length
 
 -- "Rest time at most RPT; an order waits only with rest time above 0 and never for the last direction."
-pub record SoundWait (p : Params) (last : Last) (rest : ℕ) (run : Run) : Type 0 where
+pub record SoundWait (p : Params) (last : Option Direction) (rest : ℕ) (run : Run) : Type 0 where
   pub rest_above : 0 < rest
   pub rest_most : rest ≤ p.rpt
   pub length : SoundRun p run
@@ -44,11 +43,11 @@ pub record SoundWait (p : Params) (last : Last) (rest : ℕ) (run : Run) : Type 
   pub other : last ≡ last_of run.direction → ⊥
 
 -- "While running the last direction is the running one."
-pub record SoundRunning (p : Params) (last : Last) (run : Run) : Type 0 where
+pub record SoundRunning (p : Params) (last : Option Direction) (run : Run) : Type 0 where
   pub length : SoundRun p run
   pub own : last ≡ last_of run.direction
 
-abbrev pub SoundMotion : Params → Last → Motion → Type 0
+abbrev pub SoundMotion : Params → Option Direction → Motion → Type 0
 SoundMotion p last (Motion.Off rest) = rest ≤ p.rpt
 SoundMotion p last (Motion.Waits rest run) = SoundWait p last rest run
 SoundMotion p last (Motion.Runs run) = SoundRunning p last run
@@ -72,16 +71,16 @@ whole_of p d Goal.Position length = true
 abbrev pub whole : Params → Run → Bool
 whole p run = whole_of p run.direction run.goal run.length
 
-unfoldable pub sound_wait : Params → Last → ℕ → Run → Bool
+unfoldable pub sound_wait : Params → Option Direction → ℕ → Run → Bool
 sound_wait p last rest run =
     ltb 0 rest
     && (leb rest p.rpt
     && (sound_run p run && (whole p run && not (is_last run.direction last))))
 
-unfoldable pub sound_running : Params → Last → Run → Bool
+unfoldable pub sound_running : Params → Option Direction → Run → Bool
 sound_running p last run = sound_run p run && is_last run.direction last
 
-unfoldable pub sound_motion : Params → Last → Motion → Bool
+unfoldable pub sound_motion : Params → Option Direction → Motion → Bool
 sound_motion p last (Motion.Off rest) = leb rest p.rpt
 sound_motion p last (Motion.Waits rest run) = sound_wait p last rest run
 sound_motion p last (Motion.Runs run) = sound_running p last run

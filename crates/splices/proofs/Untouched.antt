@@ -6,7 +6,8 @@ use mathlib.Core.Option.{Option, none, some, map}
 use Rattle.answers.specs.Rules.{carried}
 use Rattle.answers.proofs.Rules.{leaves_has}
 use Rattle.blind.specs.declared.Blind.{Blind}
-use Rattle.panel.specs.Panel.{Seat, Model, each_seat}
+use Rattle.panel.specs.declared.Seat.{Seat}
+use Rattle.panel.specs.Panel.{Model, each_seat}
 use Rattle.panel.specs.Calls.{Cells}
 use Rattle.panel.proofs.Kept.{each_present}
 use Rattle.splices.specs.Splices.{shifted, raised, splice_in_rule, lowered, splice_out_rule, OnlyTerminals}

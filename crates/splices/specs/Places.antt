@@ -5,6 +5,8 @@ use Rattle.std.specs.Prelude.{ℕ, ◌+◌, ◌-◌, ◌≤◌, ◌<◌, ◌≡�
 use Rattle.laws.specs.Fills.{filled}
 use Rattle.answers.specs.Rules.{edit}
 use Rattle.tags.specs.Tags.{TagSet, places}
+use Rattle.panel.specs.declared.Seat.{Seat}
+use Rattle.panel.specs.Panel.{vacant}
 use Rattle.terminals.specs.Strip.{terminals}
 use Rattle.panel.specs.Calls.{checks, CallRule}
 use Rattle.seats.specs.Seats.{in_use, busy_from, would_pass}
@@ -22,14 +24,15 @@ splice_rule t n up down =
 
 -- ---- what is written at the places of the tags: a present tag's terminal moves, and what stands at an absent tag's place stays
 
--- The terminal at the place of a tag, after the splice.
-abbrev pub place_shifted : TagSet → (ℕ → ℕ) → List ℕ → ℕ → ℕ
-place_shifted present place old tag = cond (present tag) (place (get_or old tag 0)) (get_or old tag 0)
+-- The seat at the place of a tag, after the splice.
+abbrev pub place_shifted : TagSet → (ℕ → ℕ) → List Seat → ℕ → Seat
+place_shifted present place old tag =
+    record { terminal = cond (present tag) (place (get_or old tag vacant).terminal) (get_or old tag vacant).terminal; blind = (get_or old tag vacant).blind }
 
-unfoldable pub shifted_places : TagSet → (ℕ → ℕ) → List ℕ → List ℕ
+unfoldable pub shifted_places : TagSet → (ℕ → ℕ) → List Seat → List Seat
 shifted_places present place old = filled (place_shifted present place old) places old
 
 -- The terminals that go are on the strip, and one that rises stays on it.
-pub record Room (present : TagSet) (old : List ℕ) (t up down : ℕ) : Type 0 where
+pub record Room (present : TagSet) (old : List Seat) (t up down : ℕ) : Type 0 where
   pub on : t + down ≤ terminals
-  pub stays : (tag : ℕ) → tag < places → present tag ≡ true → t + down ≤ get_or old tag 0 → get_or old tag 0 + up < terminals
+  pub stays : (tag : ℕ) → tag < places → present tag ≡ true → t + down ≤ (get_or old tag vacant).terminal → (get_or old tag vacant).terminal + up < terminals

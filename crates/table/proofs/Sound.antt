@@ -4,11 +4,11 @@ use Prim.Native.Nat.{ℕ, ◌≤◌, ◌<◌}
 use native.Mathlib.Omega.{arith}
 use mathlib.Core.Path.{◌≡◌, refl, ◌∙◌}
 use mathlib.Core.Logic.{◌↔◌}
-use mathlib.Core.Bool.{Bool, true, false, ◌&&◌, and-eq-true_iff}
+use mathlib.Core.Bool.{true, ◌&&◌, and-eq-true_iff}
 use mathlib.Core.List.{List, [], ◌∷◌}
 use lib.ListN.{length, get_or}
 use lib.Dec.{leb}
-use borrow.Author.Tests.{leb-true, le-leb, lt-leb}
+use borrow.Author.Tests.{leb-true, le-leb}
 use Rattle.link.specs.declared.Link.{Link}
 use Rattle.link.specs.Link.{key_of, nothing, may_follow}
 use Rattle.table.specs.Links.{Held}
@@ -114,23 +114,3 @@ sound_decided h = (reads, holds)
               (λ i j k m. before_key (get_or h.links i nothing) (get_or h.links j nothing) (range i (omega arith)) (range j m) (s.ascending i j k m));
           agrees = pairs_of Agree h.links nothing s.one_class;
         })
-
--- too many links
-pub too_many : (h : Held) → most < h.count → is_sound h ≡ false
-unfolding is_sound
-too_many h n = rw (lt-leb h.count most n) (go h.tidy)
-  where
-    go : (b : Bool) → b && false ≡ false
-    go true = refl
-    go false = refl
-
--- few enough: the links and the unused words decide
-pub not_too_many : (h : Held) → h.count ≤ most → is_sound h ≡ in_order nothing h.links && h.tidy
-unfolding is_sound
-not_too_many h n = rw (le-leb h.count most n) (swap h.tidy (in_order nothing h.links))
-  where
-    swap : (a b : Bool) → a && b ≡ b && a
-    swap true true = refl
-    swap true false = refl
-    swap false true = refl
-    swap false false = refl

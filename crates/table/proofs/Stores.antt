@@ -5,11 +5,12 @@ use native.Mathlib.Omega.{arith}
 use native.Mathlib.Decide.{dec_lt}
 use mathlib.Core.Path.{◌≡◌, sym, ap, ◌∙◌}
 use mathlib.Core.Bool.{true}
-use mathlib.Core.List.{List}
+use mathlib.Core.List.{List, map}
 use lib.ListN.{length, get_or, take, drop, length-take, length-drop, get_or-eq_default}
 use lib.Seq.{length-take-le, get_or-take, get_or-drop}
 use lib.Dec.{eqb}
 use borrow.Author.Tests.{eqb-true, eq-eqb}
+use Rattle.std.proofs.lemmas.List.{take_min}
 use Rattle.laws.proofs.Maps.{map_length, map_at}
 use Rattle.laws.proofs.Every.{every_at}
 use Rattle.link.specs.Link.{nothing, of_word}
@@ -31,12 +32,18 @@ many t whole h = map_length of_word (take t.count t.words) ∙ length-take-le t.
 pub places : (t : Table) → length (held_of t).links ≡ min t.count (length t.words)
 places t = map_length of_word (take t.count t.words) ∙ length-take t.count t.words
 
+-- the link of the word at a place
+pub of_word_at : (words : List ℕ) (i : ℕ) → get_or (map of_word words) i nothing ≡ of_word (get_or words i 0)
+of_word_at words i = ap (get_or (map of_word words) i) (sym unused_word) ∙ map_at of_word words i 0
+
 -- the link held at a place is that of the word that stands there
 pub held_at : (t : Table) (i : ℕ) → i < t.count → get_or (held_of t).links i nothing ≡ of_word (get_or t.words i 0)
-held_at t i h =
-    ap (get_or (held_of t).links i) (sym unused_word)
-    ∙ map_at of_word (take t.count t.words) i 0
-    ∙ ap of_word (get_or-take t.count t.words i 0 h)
+held_at t i h = of_word_at (take t.count t.words) i ∙ ap of_word (get_or-take t.count t.words i 0 h)
+
+-- a table that counts more links than it has places holds those that it has
+pub held_words : (t : Table) {end : ℕ} → length t.words ≡ 512 → end ≡ min t.count 512 → (held_of t).links ≡ map of_word (take end t.words)
+held_words t {end} whole e =
+    ap (map of_word) (sym (take_min t.count t.words) ∙ ap (λ (n : ℕ). take n t.words) (ap (min t.count) whole ∙ sym e))
 
 -- "unused words are 0", place by place
 pub unused_zero : (t : Table) → (held_of t).tidy ≡ true → (i : ℕ) → t.count ≤ i → get_or t.words i 0 ≡ 0

@@ -2,8 +2,8 @@
 // address, tag and kind. Words are numbers, so whoever reads them is lent them; a panel or a table goes by value.
 #![tactic(auto)]
 
-pub mod search;
-pub mod soundness;
+mod search;
+mod soundness;
 
 ghost use Rattle.std.specs.Prelude.{◌≡◌, []};
 ghost use Rattle.table.specs.Links.{held_of, holding};
@@ -13,7 +13,8 @@ use link::words::UNUSED;
 // The most links that a table holds.
 pub const MOST: usize = 512;
 
-// The words from the count on are unused.
+// The words from the count on are unused. Any numbers may stand here, and `held_of` tells what they hold: document 02, K4,
+// answers 12 where an unused word is not 0, so no invariant of the type rules that out.
 #[derive(Clone, Copy)]
 pub struct Table {
     pub count: usize,

@@ -18,6 +18,7 @@ pub struct Tags {
 
 impl Tags {
     // No tag is in it.
+    #[tactic(auto, using(crate::proofs::Members::member_none))]
     pub fn empty() -> Tags
         ensures { tags_of result ≡ none }
     {
@@ -29,23 +30,17 @@ impl Tags {
     pub fn has(self, tag: u64) -> bool
         ensures { result ≡ tags_of self tag }
     {
-        let word = self.word;
-        if tag < PLACES {
-            let digit = (word >> tag) % 2;
-            digit == 1
-        } else {
-            false
-        }
+        tag < PLACES && (self.word >> tag) % 2 == 1
     }
 
     // The set with a tag put in.
+    #[tactic(auto, using(crate::proofs::Members::put_past))]
     pub fn with(self, tag: u64) -> Tags
         ensures { tags_of result ≡ put places tag (tags_of self) }
     {
-        let word = self.word;
         if tag < PLACES {
             Tags {
-                word: word | (1 << tag),
+                word: self.word | (1 << tag),
             }
         } else {
             self
@@ -56,10 +51,9 @@ impl Tags {
     pub fn without(self, tag: u64) -> Tags
         ensures { tags_of result ≡ taken tag (tags_of self) }
     {
-        let word = self.word;
         if tag < PLACES {
             Tags {
-                word: word & !(1 << tag),
+                word: self.word & !(1 << tag),
             }
         } else {
             self
@@ -67,18 +61,18 @@ impl Tags {
     }
 
     // How many tags are in the set: the ones of the word.
+    #[tactic(auto, using(crate::proofs::Members::ones_count))]
     pub fn count(self) -> u32
         ensures { result ≡ how_many places (tags_of self) }
     {
-        let word = self.word;
-        u64::count_ones(word)
+        self.word.count_ones()
     }
 
     // The lowest tag that is not in the set, 64 if there is none: the trailing zeros of the complement.
+    #[tactic(auto, using(crate::proofs::Members::zeros_lowest))]
     pub fn lowest_free(self) -> u32
         ensures { result ≡ lowest_free places (tags_of self) }
     {
-        let word = self.word;
-        u64::trailing_zeros(!word)
+        (!self.word).trailing_zeros()
     }
 }

@@ -26,12 +26,13 @@ use Rattle.link.proofs.Ranges.{range_reads}
 use Rattle.table.proofs.Sound.{sound_decided}
 use Rattle.table.proofs.Stores.{few, many, held_at}
 use Rattle.panel.specs.declared.Panel.{Panel}
-use Rattle.panel.specs.Panel.{Seat, Model, nobody, place_of, seats_of, model_of, reseated, each_seat, on_blind}
-use Rattle.panel.specs.Fields.{with_blinds}
+use Rattle.panel.specs.declared.Seat.{Seat}
+use Rattle.panel.specs.Panel.{Model, place_of, seats_of, model_of, reseated, each_seat, on_blind}
+use Rattle.panel.specs.Fields.{with_seats}
 use Rattle.panel.specs.Sound.{Sound}
 use Rattle.panel.specs.Reports.{reports}
 use Rattle.panel.proofs.Cells.{report_most}
-use Rattle.panel.proofs.Seats.{same_model, seat_present, present_tags, blind_written}
+use Rattle.panel.proofs.Seats.{same_model, seat_present, present_tags, seat_written}
 use Rattle.telegrams.specs.Telegrams.{served, delivered}
 use Rattle.telegrams.proofs.Soundness.{handed_sound}
 use Rattle.telegrams.proofs.Told.{written, none_told, one_told, all_told}
@@ -39,16 +40,16 @@ use Rattle.telegrams.proofs.Told.{written, none_told, one_told, all_told}
 -- ---- one link
 
 -- writing the blind of a link's tag anew is what the link does
-link_served : (p : Panel) (link : Link) (value : ℕ) (b : Blind) → tags_of p.present link.tag ≡ true → link.tag < length p.blinds
-    → b ≡ heeded (input_of link.kind value) (get_or p.blinds link.tag nobody)
-    → model_of (with_blinds (set p.blinds link.tag b) p) ≡ each_seat (served value link) (model_of p)
+link_served : (p : Panel) (link : Link) (value : ℕ) (b : Blind) → tags_of p.present link.tag ≡ true → link.tag < length p.seats
+    → b ≡ heeded (input_of link.kind value) (place_of p link.tag).blind
+    → model_of (with_seats (set p.seats link.tag (record { terminal = (place_of p link.tag).terminal; blind = b })) p) ≡ each_seat (served value link) (model_of p)
 unfolding reseated each_seat served
 link_served p link value b present fits e =
-    blind_written p link.tag b present fits
+    seat_written p link.tag new present fits
     ∙ same_model (reseated link.tag (some new) (model_of p)) (each_seat (served value link) (model_of p)) (λ tag. go tag (eqb tag link.tag) refl) refl
   where
     new : Seat
-    new = record { terminal = get_or p.terminals link.tag 0; blind = b }
+    new = record { terminal = (place_of p link.tag).terminal; blind = b }
 
     rule : Bool → Seat → Seat
     rule same seat = cond same (on_blind (heeded (input_of link.kind value)) seat) seat
@@ -59,7 +60,7 @@ link_served p link value b present fits e =
 
     go : (tag : ℕ) (same : Bool) → eqb tag link.tag ≡ same → cond same (some new) (seats_of p tag) ≡ map (rule same) (seats_of p tag)
     go tag true f =
-        ap (λ (x : Blind). some (record { terminal = get_or p.terminals link.tag 0; blind = x })) e
+        ap (λ (x : Blind). some (record { terminal = (place_of p link.tag).terminal; blind = x })) e
         ∙ sym (ap (λ (o : Option Seat). map (rule true) o) (ap (seats_of p) (eqb-true tag link.tag f) ∙ seat_present p link.tag present))
     go tag false f = kept (seats_of p tag)
 
@@ -76,13 +77,13 @@ module _ (value : ℕ) (p : Panel) (start count : ℕ) where
 
   -- the panel and the cells when so many links have spoken
   pub record Delivering (next : Panel) (cells : List ℕ) (turn : ℕ) : Type 0 where
-    pub only : next ≡ with_blinds next.blinds p
-    pub room : length next.blinds ≡ places
+    pub only : next ≡ with_seats next.seats p
+    pub room : length next.seats ≡ places
     pub rest : delivered value (left turn) (model_of next) ≡ target
     pub sound : Sound (model_of next)
     pub told : cells ≡ tabulate places (written p next)
 
-  pub deliver_start : {cells : List ℕ} → length p.blinds ≡ places → Sound (model_of p) → cells ≡ tabulate places (λ tag. no_report) → Delivering p cells 0
+  pub deliver_start : {cells : List ℕ} → length p.seats ≡ places → Sound (model_of p) → cells ≡ tabulate places (λ tag. no_report) → Delivering p cells 0
   deliver_start room sound silent =
       let all : count - 0 ≡ count = omega arith in
       let here : start + 0 ≡ start = omega arith in
@@ -143,29 +144,29 @@ module _ (value : ℕ) (p : Panel) (start count : ℕ) where
             ∙ ap₂ (λ (l : Link) (n : ℕ). l ∷ take (count - (turn + 1)) (drop n ls)) here after
 
         module _ {next : Panel} {cells : List ℕ} (so_far : Delivering next cells turn) (byte : value ≤ 255) (b : Blind)
-            (heard : b ≡ heeded (input_of link.kind value) (get_or next.blinds link.tag nobody)) where
+            (heard : b ≡ heeded (input_of link.kind value) (place_of next link.tag).blind) where
           present : tags_of next.present link.tag ≡ true
           present = ap (λ (q : Panel). tags_of q.present link.tag) so_far.only ∙ tag_there
 
           -- what the cell is to hold fits
-          pub deliver_fits : {n : ℕ} → n ≡ report (get_or p.blinds link.tag nobody) b → n ≤ no_report
+          pub deliver_fits : {n : ℕ} → n ≡ report (place_of p link.tag).blind b → n ≤ no_report
           deliver_fits e =
               rw e
-              (report_most (get_or p.blinds link.tag nobody) b
+              (report_most (place_of p link.tag).blind b
               (rw heard
-              (heeded_sound (input_of link.kind value) (get_or next.blinds link.tag nobody) (input_of_class link.kind value byte)
+              (heeded_sound (input_of link.kind value) (place_of next link.tag).blind (input_of_class link.kind value byte)
               (so_far.sound.blinds link.tag (place_of next link.tag) (seat_present next link.tag present)))))
 
           -- one turn
-          pub deliver_turn : {n : ℕ} → n ≡ report (get_or p.blinds link.tag nobody) b
-              → Delivering (with_blinds (set next.blinds link.tag b) next) (set cells link.tag n) (turn + 1)
+          pub deliver_turn : {n : ℕ} → n ≡ report (place_of p link.tag).blind b
+              → Delivering (with_seats (set next.seats link.tag (record { terminal = (place_of next link.tag).terminal; blind = b })) next) (set cells link.tag n) (turn + 1)
           unfolding delivered
           deliver_turn {n} e =
-              let fits : link.tag < length next.blinds = omega (arith, tag_low, so_far.room) in
+              let fits : link.tag < length next.seats = omega (arith, tag_low, so_far.room) in
               let does = link_served next link value b present fits heard in
               record {
-                only = ap (with_blinds (set next.blinds link.tag b)) so_far.only;
-                room = length-set next.blinds link.tag b ∙ so_far.room;
+                only = ap (with_seats (set next.seats link.tag (record { terminal = (place_of next link.tag).terminal; blind = b }))) so_far.only;
+                room = length-set next.seats link.tag (record { terminal = (place_of next link.tag).terminal; blind = b }) ∙ so_far.room;
                 rest =
                     ap (delivered value (left (turn + 1))) does
                     ∙ sym (ap (λ (ls : List Link). delivered value ls (model_of next)) left_next) ∙ so_far.rest;

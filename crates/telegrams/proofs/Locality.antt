@@ -28,7 +28,8 @@ use Rattle.laws.proofs.Each.{Each, first, each_map, each_both}
 use Rattle.laws.proofs.Kept.{each_kept, kept_length, kept_swap, kept_pass}
 use Rattle.table.proofs.Sound.{sound_reads, sound_decided}
 use Rattle.table.proofs.Spans.{class_shared}
-use Rattle.panel.specs.Panel.{Seat, Model, each_seat, on_blind}
+use Rattle.panel.specs.declared.Seat.{Seat}
+use Rattle.panel.specs.Panel.{Model, each_seat, on_blind}
 use Rattle.panel.specs.Sound.{Sound}
 use Rattle.panel.specs.Calls.{Cells, outside}
 use Rattle.panel.proofs.Decides.{sound_tested}

@@ -13,7 +13,8 @@ use Rattle.rules.specs.Rules.{heeded}
 use Rattle.values.specs.Telegrams.{input_of}
 use Rattle.conduct.proofs.SoundCourses.{heeded_sound, input_of_class}
 use Rattle.link.specs.declared.Link.{Link}
-use Rattle.panel.specs.Panel.{Seat, Model, each_seat, on_blind}
+use Rattle.panel.specs.declared.Seat.{Seat}
+use Rattle.panel.specs.Panel.{Model, each_seat, on_blind}
 use Rattle.panel.specs.Sound.{Sound}
 use Rattle.panel.specs.Calls.{Cells}
 use Rattle.panel.proofs.Checks.{lent_passed}

@@ -8,7 +8,8 @@ use Rattle.values.specs.Telegrams.{input_of}
 use Rattle.link.specs.declared.Link.{Link}
 use Rattle.link.specs.Link.{is_address}
 use Rattle.table.specs.Links.{links_to, no_link_to, start_of, address_class}
-use Rattle.panel.specs.Panel.{Seat, Model, each_seat, on_blind}
+use Rattle.panel.specs.declared.Seat.{Seat}
+use Rattle.panel.specs.Panel.{Model, each_seat, on_blind}
 use Rattle.panel.specs.Calls.{row, lent_checks, CallRule}
 use Rattle.panel.specs.Reports.{reports}
 

@@ -2,108 +2,68 @@
 // many there were. It is judged as a whole before the first blind hears of it.
 #![tactic(auto)]
 
-ghost use Rattle.std.specs.Prelude.{◌<◌, ◌≤◌, ◌+◌, ◌≡◌, true, not, ◌∷◌, length, get_or};
-ghost use Rattle.laws.specs.Fills.{tabulate};
+ghost use Rattle.std.specs.Prelude.{◌<◌, ◌≤◌, ◌+◌, ◌≡◌, length, get_or, IfOk};
+ghost use Rattle.answers.specs.Numbers.{answer_of};
 ghost use Rattle.answers.specs.Answers.{refusal};
 ghost use Rattle.kinds.specs.Kinds.{class_of};
 ghost use Rattle.link.specs.Link.{of_word};
-ghost use Rattle.table.specs.Links.{links_in, held_in};
 ghost use Rattle.table.specs.Sound as ofLinks;
 ghost use Rattle.rules.specs.Rules.{heeded};
 ghost use Rattle.values.specs.Telegrams.{input_of};
-ghost use Rattle.tags.specs.Tags.{places};
-ghost use Rattle.outputs.specs.Reports.{no_report};
-ghost use Rattle.panel.specs.Calls.{row, outside, Does};
+ghost use Rattle.panel.specs.Panel.{model_of};
+ghost use Rattle.panel.specs.Calls.{row, checks, Does};
 ghost use Rattle.telegrams.specs.Telegrams.{is_outside, link_checks, Together, telegram_rule};
 
-use answers::{DONE, NO_LINK, NOT_OF_THE_CLASS, NOT_SOUND, OUT_OF_RANGE, WRONG_CELLS};
+use answers::{Answered, Refusal};
 use blind::Blind;
 use link::words::{ADDRESS_STEP, class_in};
 use link::{Link, is_address};
 use outputs::{NO_REPORT, report};
 use panel::Panel;
-use panel::calls::Answered;
-use panel::soundness::{is_sound, seats_sound};
 use rules::heed;
-use table::search::below;
 use tags::CELLS;
 use values::Input;
 
 const LAST_VALUE: u64 = 255;
 
-// The links speak to the panel itself; a copy of its blinds tells each cell what stood there before the whole call.
+// The links speak to the panel itself; a copy of its seats tells each cell what stood there before the whole call. Address and
+// value are numbers of any size, as a caller has them, and no type.
 #[tactic(auto, unfolding(crate::specs::Telegrams::telegram_rule, panel::specs::Calls::checks))]
-pub fn telegram(mut panel: Panel, address: u64, value: u64, cells: &mut [u16]) -> Answered
+pub fn telegram(mut panel: Panel, address: u64, value: u64, cells: &mut [u16]) -> Answered<Panel>
     ensures { Does (telegram_rule address value) panel (row cells.old) result (row cells.new) }
 {
     if cells.len() != CELLS {
-        return Answered {
-            answer: WRONG_CELLS,
-            count: 0,
-            panel,
-        };
+        return Answered::refused(panel, Refusal::WrongCells);
     }
-    let seated = seats_sound(panel.present, panel.terminals, panel.blinds);
-    let sound = is_sound(seated, panel.present, &panel.table.words, panel.table.count);
-    let reach = judge(sound, &panel.table.words, panel.table.count, address, value);
-    let refused = reach.answer;
-    if refused != DONE {
-        return Answered {
-            answer: refused,
-            count: 0,
-            panel,
-        };
-    }
-    clear(cells);
-    let before = panel.blinds;
+    let reach = match judge(&panel, address, value) {
+        Ok(reach) => reach,
+        Err(refusal) => return Answered::refused(panel, refusal),
+    };
+    cells.fill(NO_REPORT);
+    let before = panel.seats;
     let count = reach.count;
     let byte = value as u8;
+    // By the turn: the words stand in the panel that the turn writes, and lent as a row they would be no plainer.
     for turn in 0..count {
         let link = link_at(&panel.table.words, reach.place(turn));
         let tag = link.tag as usize;
-        let old = before[tag];
-        let now = panel.blinds[tag];
+        let old = before[tag].blind;
+        let now = panel.seats[tag].blind;
         let new = hear(now, link, byte);
-        panel.blinds[tag] = new;
+        panel.seats[tag].blind = new;
         cells[tag] = report(old, new) as u16;
     }
-    Answered {
-        answer: DONE,
-        count: count as u64,
-        panel,
-    }
+    Answered::done(panel, count as u64)
 }
 
-// No blind has anything to report before the first link is served.
-fn clear(cells: &mut [u16])
-    requires { length cells.old ≡ places }
-    ensures { cells.new ≡ tabulate places (λ tag. no_report) }
-{
-    for tag in 0..CELLS {
-        cells[tag] = NO_REPORT;
-    }
-}
-
-// The links that a telegram reaches, or the number that refuses it.
+// The links that a telegram reaches.
 #[derive(Clone, Copy)]
 struct Reach {
-    answer: u8,
     start: usize,
     count: usize,
 }
 
 impl Reach {
-    // Refused: nobody is reached.
-    fn refused(answer: u8) -> Reach
-        ensures { result.answer ≡ answer }
-    {
-        Reach {
-            answer,
-            start: 0,
-            count: 0,
-        }
-    }
-
     // Where the link stands whose turn it is: they are served in table order.
     fn place(self, turn: usize) -> usize
         requires turn_lt_count { turn < self.count }
@@ -116,32 +76,28 @@ impl Reach {
 
 // The links of the address are looked up once, for their number, their class and their place: they stand together, and
 // end where those of the next address start. All of them have one class, so the first tells it.
-fn judge(sound: bool, words: &[u32], held: usize, address: u64, value: u64) -> Reach
-    requires words_value { sound ≡ true → ofLinks.is_sound (held_in held words.now) ≡ true }
-    requires words_len { length words.now ≡ ofLinks.most }
-    ensures { (result.answer ≡ refusal ((not sound, 12) ∷ outside (is_outside address value) ∷ link_checks address value (links_in held words.now))) × (result.answer ≡ 0 → Together address (links_in held words.now) result.start result.count) }
+fn judge(panel: &Panel, address: u64, value: u64) -> Result<Reach, Refusal>
+    requires { length panel.now.table.words ≡ ofLinks.most }
+    ensures answer { answer_of result ≡ refusal (checks (model_of panel.now) (is_outside address value) (link_checks address value (model_of panel.now).table.links)) }
+    ensures reach { IfOk result (λ reach. Together address (model_of panel.now).table.links reach.start reach.count) }
 {
-    if !sound {
-        return Reach::refused(NOT_SOUND);
+    if !panel.is_sound() {
+        return Err(Refusal::NotSound);
     }
     if is_outside(address, value) {
-        return Reach::refused(OUT_OF_RANGE);
+        return Err(Refusal::OutOfRange);
     }
-    let start = below(words, held, address * ADDRESS_STEP);
-    let end = below(words, held, (address + 1) * ADDRESS_STEP);
+    let start = panel.table.below(address * ADDRESS_STEP);
+    let end = panel.table.below((address + 1) * ADDRESS_STEP);
     let count = end - start;
     if count == 0 {
-        return Reach::refused(NO_LINK);
+        return Err(Refusal::NoLink);
     }
-    let first = words[start];
+    let first = panel.table.words[start];
     if class(first) < value {
-        return Reach::refused(NOT_OF_THE_CLASS);
+        return Err(Refusal::NotOfTheClass);
     }
-    Reach {
-        answer: DONE,
-        start,
-        count,
-    }
+    Ok(Reach { start, count })
 }
 
 // Whether a telegram cannot have this address or this value.
@@ -149,17 +105,14 @@ fn judge(sound: bool, words: &[u32], held: usize, address: u64, value: u64) -> R
 pub fn is_outside(address: u64, value: u64) -> bool
     ensures { result ≡ is_outside address value }
 {
-    if !is_address(address) {
-        return true;
-    }
-    LAST_VALUE < value
+    !is_address(address) || LAST_VALUE < value
 }
 
 // The greatest value that a word's kind takes.
 fn class(word: u32) -> u64
     ensures { result ≡ class_of (of_word word).kind }
 {
-    class_in(word) as u64
+    u64::from(class_in(word))
 }
 
 fn link_at(words: &[u32], place: usize) -> Link

@@ -1,29 +1,35 @@
-// A text is put on a lent row of bytes from its front: each function is handed how far the sheet is filled and hands back
-// how far it is then. What does not fit is left out, so nobody has to make room beforehand.
+// A text is put on a sheet: a lent row of bytes, written from its front, and how far it is filled. What does not fit is left
+// out, so nobody has to make room beforehand. These are functions and not std's Display, which promises its text on Ok alone.
 #![tactic(auto)]
 
-ghost use Rattle.std.specs.Prelude.{◌≡◌};
-ghost use Rattle.texts.specs.Sheet.{sheet, put as ofSheet·put, puts};
+ghost use Rattle.std.specs.Prelude.{[], ◌∷◌};
+ghost use Rattle.texts.specs.Lent.{Puts};
 
-// One byte more.
-#[tactic(auto, unfolding(crate::specs::Sheet::put))]
-pub fn put(out: &mut [u8], at: usize, byte: u8) -> usize
-    ensures { sheet out.new result ≡ ofSheet·put byte (sheet out.old at) }
-{
-    if at < out.len() {
-        out[at] = byte;
-        return at + 1;
-    }
-    at
+#[derive(Drop)]
+pub struct Sheet<'a> {
+    pub bytes: &'a mut [u8],
+    pub at: usize,
 }
 
-// A text more.
-pub fn put_text(out: &mut [u8], at: usize, text: &[u8]) -> usize
-    ensures { sheet out.new result ≡ puts text.now (sheet out.old at) }
-{
-    let mut next = at;
-    for i in 0..text.len() {
-        next = put(out, next, text[i]);
+impl Sheet<'_> {
+    // One byte more.
+    #[tactic(auto, unfolding(crate::specs::Sheet::put, crate::specs::Sheet::puts))]
+    pub fn put(&mut self, byte: u8)
+        ensures { Puts (byte ∷ []) self.old self.new }
+    {
+        if self.at < self.bytes.len() {
+            self.bytes[self.at] = byte;
+            self.at += 1;
+        }
     }
-    next
+
+    // A text more.
+    #[tactic(auto, using(crate::proofs::Sheets::bytes_more, crate::proofs::Sheets::bytes_all), unfolding(crate::specs::Sheet::puts))]
+    pub fn put_text(&mut self, text: &[u8])
+        ensures { Puts text.now self.old self.new }
+    {
+        for &byte in text {
+            self.put(byte);
+        }
+    }
 }

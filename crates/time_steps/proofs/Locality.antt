@@ -8,7 +8,8 @@ use Rattle.answers.specs.Rules.{Result, carried}
 use Rattle.answers.proofs.Rules.{leaves_has, done}
 use Rattle.milliseconds.specs.Milliseconds.{milliseconds}
 use Rattle.outputs.specs.Reports.{no_report}
-use Rattle.panel.specs.Panel.{Seat, Model, each_seat, on_blind}
+use Rattle.panel.specs.declared.Seat.{Seat}
+use Rattle.panel.specs.Panel.{Model, each_seat, on_blind}
 use Rattle.panel.specs.Sound.{Sound}
 use Rattle.panel.specs.Calls.{Cells}
 use Rattle.panel.specs.Reports.{SeenAt}

@@ -1,8 +1,7 @@
 -- Document 01, "Links and telegrams": what a value says on an input of each kind.
 -- Assumes nothing.
-use Rattle.std.specs.Prelude.{ℕ, cond, eqb}
+use Rattle.std.specs.Prelude.{ℕ, cond, eqb, Option, Some, None}
 use Rattle.heights.specs.declared.Direction.{Direction}
-use Rattle.blind.specs.declared.Forced.{Forced}
 use Rattle.kinds.specs.Kinds.{wa, ra, fa, fo, mud, stop, ssud}
 use Rattle.inputs.specs.declared.Command.{Command}
 use Rattle.values.specs.declared.Flag.{Flag}
@@ -13,8 +12,8 @@ abbrev pub direction_of : ℕ → Direction
 direction_of value = cond (eqb value 0) Direction.Up Direction.Down
 
 -- "FO: 2 up, 3 down, 0 and 1 none."
-abbrev pub forced_of : ℕ → Forced
-forced_of value = cond (eqb value 2) Forced.Up (cond (eqb value 3) Forced.Down Forced.No)
+abbrev pub forced_of : ℕ → Option Direction
+forced_of value = cond (eqb value 2) (Some Direction.Up) (cond (eqb value 3) (Some Direction.Down) None)
 
 -- What commands: MUD, STOP, SSUD, and SAPBP with its byte.
 unfoldable pub command_of : ℕ → ℕ → Command

@@ -2,12 +2,11 @@
 #![tactic(auto)]
 
 ghost use Rattle.std.specs.Prelude.{◌≡◌};
-ghost use Rattle.values.specs.Telegrams.{direction_of, forced_of, command_of, input_of};
+ghost use Rattle.values.specs.Telegrams.{direction_of, forced_of, input_of};
 
-use blind::Forced;
 use heights::Direction;
 use inputs::Command;
-use kinds::{FA, FO, MUD, RA, SSUD, STOP, WA};
+use kinds::{Kind, UnknownKind};
 
 // Kinds 0 to 3: one of the flags, and what it becomes.
 #[derive(Clone, Copy)]
@@ -15,7 +14,7 @@ pub enum Flag {
     Wind(bool),
     Rain(bool),
     Frost(bool),
-    Force(Forced),
+    Force(Option<Direction>),
 }
 
 // What a telegram says to a blind: kinds 0 to 3 set a flag, the others command.
@@ -26,32 +25,25 @@ pub enum Input {
 }
 
 impl Input {
-    #[tactic(auto, unfolding(crate::specs::Telegrams::input_of))]
+    #[tactic(auto, unfolding(crate::specs::Telegrams::input_of, crate::specs::Telegrams::command_of))]
     pub fn of(kind: u8, value: u8) -> Input
         ensures { result ≡ input_of kind value }
     {
-        match kind {
-            WA => Input::Set(Flag::Wind(value == 1)),
-            RA => Input::Set(Flag::Rain(value == 1)),
-            FA => Input::Set(Flag::Frost(value == 1)),
-            FO => Input::Set(Flag::Force(forced_of(value))),
-            _ => Input::Command(command_of(kind, value)),
+        match Kind::try_from(kind) {
+            Ok(Kind::Wa) => Input::Set(Flag::Wind(value == 1)),
+            Ok(Kind::Ra) => Input::Set(Flag::Rain(value == 1)),
+            Ok(Kind::Fa) => Input::Set(Flag::Frost(value == 1)),
+            Ok(Kind::Fo) => Input::Set(Flag::Force(forced_of(value))),
+            Ok(Kind::Mud) => Input::Command(Command::Move(direction_of(value))),
+            Ok(Kind::Stop) => Input::Command(Command::Stop),
+            Ok(Kind::Ssud) => Input::Command(Command::Step(direction_of(value))),
+            // A number that no kind has, which no sound table holds, commands as the last kind does.
+            Ok(Kind::Sapbp) | Err(UnknownKind(_)) => Input::Command(Command::Position(value)),
         }
     }
 }
 
-#[tactic(auto, unfolding(crate::specs::Telegrams::command_of))]
-fn command_of(kind: u8, value: u8) -> Command
-    ensures { result ≡ command_of kind value }
-{
-    match kind {
-        MUD => Command::Move(direction_of(value)),
-        STOP => Command::Stop,
-        SSUD => Command::Step(direction_of(value)),
-        _ => Command::Position(value),
-    }
-}
-
+// No `From`: a direction is another crate's, and only a MUD or an SSUD says it so.
 fn direction_of(value: u8) -> Direction
     ensures { result ≡ direction_of value }
 {
@@ -61,12 +53,13 @@ fn direction_of(value: u8) -> Direction
     }
 }
 
-fn forced_of(value: u8) -> Forced
+// No `From` here either: only an FO says it so.
+fn forced_of(value: u8) -> Option<Direction>
     ensures { result ≡ forced_of value }
 {
     match value {
-        2 => Forced::Up,
-        3 => Forced::Down,
-        _ => Forced::No,
+        2 => Some(Direction::Up),
+        3 => Some(Direction::Down),
+        _ => None,
     }
 }

@@ -14,7 +14,8 @@ use Rattle.values.specs.Telegrams.{input_of}
 use Rattle.conduct.specs.Courses.{Stands}
 use Rattle.conduct.proofs.Kept.{heeded_rest}
 use Rattle.link.specs.declared.Link.{Link}
-use Rattle.panel.specs.Panel.{Seat, Model, is_there, present_in}
+use Rattle.panel.specs.declared.Seat.{Seat}
+use Rattle.panel.specs.Panel.{Model, is_there, present_in}
 use Rattle.panel.specs.Sound.{Tagged}
 use Rattle.panel.proofs.Decides.{sound_decides}
 use Rattle.telegrams.specs.Locality.{reached}

@@ -24,7 +24,8 @@ use Rattle.kinds.specs.Kinds.{class_of}
 use Rattle.link.specs.declared.Link.{Link}
 use Rattle.link.specs.Link.{last_tag}
 use Rattle.table.specs.Links.{address_class}
-use Rattle.panel.specs.Panel.{Seat, Model, on_blind}
+use Rattle.panel.specs.declared.Seat.{Seat}
+use Rattle.panel.specs.Panel.{Model, on_blind}
 use Rattle.panel.specs.Sound.{Tagged}
 use Rattle.panel.specs.Calls.{Cells}
 use Rattle.telegrams.specs.Telegrams as telegrams

@@ -7,7 +7,8 @@ use mathlib.Core.List.{List, [], ◌∷◌, ◌++◌}
 use mathlib.Core.Option.{Option, none, some}
 use Rattle.laws.proofs.Choices.{never_both}
 use Rattle.link.specs.declared.Link.{Link}
-use Rattle.panel.specs.Panel.{Seat, Model, is_there, present_in}
+use Rattle.panel.specs.declared.Seat.{Seat}
+use Rattle.panel.specs.Panel.{Model, is_there, present_in}
 use Rattle.panel.specs.Sound.{Tagged, is_sound}
 use Rattle.panel.proofs.Decides.{sound_decides, sound_tested}
 use Rattle.telegrams.specs.Locality.{reached, heard_by}

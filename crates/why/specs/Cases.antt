@@ -6,7 +6,8 @@ use Rattle.std.proofs.Math.Option.{none, some}
 use Rattle.answers.specs.Cases.{Case, case}
 use Rattle.answers.specs.Rules.{Result}
 use Rattle.link.specs.declared.Link.{Link}
-use Rattle.panel.specs.Panel.{Seat, Model}
+use Rattle.panel.specs.declared.Seat.{Seat}
+use Rattle.panel.specs.Panel.{Model}
 use Rattle.panel.specs.Sound.{Sound}
 use Rattle.panel.specs.Calls.{Cells}
 use Rattle.telegrams.specs.Cases.{Telegram}

@@ -6,7 +6,8 @@ use Rattle.answers.specs.Answers.{first}
 use Rattle.blind.specs.declared.Blind.{Blind}
 use Rattle.link.specs.declared.Link.{Link}
 use Rattle.link.specs.Link.{last_tag}
-use Rattle.panel.specs.Panel.{Seat, Model, nobody, present_in}
+use Rattle.panel.specs.declared.Seat.{Seat}
+use Rattle.panel.specs.Panel.{Model, nobody, present_in}
 use Rattle.panel.specs.Sound.{is_sound}
 use Rattle.telegrams.specs.Telegrams as telegrams
 use Rattle.telegrams.specs.Locality.{reached}

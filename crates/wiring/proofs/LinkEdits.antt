@@ -14,7 +14,8 @@ use Rattle.answers.proofs.Rules.{carried_done, answer_is}
 use Rattle.tags.specs.Tags.{TagSet, tags_of}
 use Rattle.link.specs.declared.Link.{Link}
 use Rattle.table.specs.declared.Table.{Table}
-use Rattle.links.specs.declared.Edited.{Edited}
+use Rattle.answers.specs.declared.Answered.{Answered}
+use Rattle.answers.specs.Numbers.{answer_of, count_of}
 use Rattle.link.specs.Link.{in_range, key_of}
 use Rattle.table.specs.Links.{Held, held_of, holding}
 use Rattle.table.specs.Sound as ofLinks
@@ -91,12 +92,12 @@ module _ (l : Link) (m : Model) (cells : Cells) where
 
 -- ---- add link
 
-module _ (l made : Link) (edited : Edited) (m : Model) (cells : Cells) (same : in_range l ≡ true → made ≡ l) (told : edited_of edited ≡ tableEdited (table_add made) m.table) where
-  add_number : edited.answer ≡ refusal (unsound m.table ∷ add_checks made m.table)
+module _ (l made : Link) (edited : Answered Table) (m : Model) (cells : Cells) (same : in_range l ≡ true → made ≡ l) (told : edited_of edited ≡ tableEdited (table_add made) m.table) where
+  add_number : (answer_of edited.outcome) ≡ refusal (unsound m.table ∷ add_checks made m.table)
   unfolding table_add
   add_number = ap (λ (r : Result Held (Unit {0})). r.answer) told ∙ answer_is (table_add made) m.table tt
 
-  pub add_sound_told : not (eqb edited.answer 12) ≡ ofLinks.is_sound m.table
+  pub add_sound_told : not (eqb (answer_of edited.outcome) 12) ≡ ofLinks.is_sound m.table
   unfolding add_checks first
   add_sound_told = table_told m.table (add_checks made m.table) (never (not (in_range made)) (is_in key_of made m.table.links) (other_class made m.table.links) (leb ofLinks.most m.table.count)) add_number
     where
@@ -108,7 +109,7 @@ module _ (l made : Link) (edited : Edited) (m : Model) (cells : Cells) (same : i
       never false false false false e = omega arith
 
   module _ (sound : is_sound m ≡ true) (range : in_range l ≡ true) where
-    add_own_lem : refusal (add_own l m.table) ≡ edited.answer
+    add_own_lem : refusal (add_own l m.table) ≡ (answer_of edited.outcome)
     unfolding add_checks
     add_own_lem =
         sym (passed_by (not (ofLinks.is_sound m.table)) 12 (add_checks l m.table) (ap not (table_sound m sound))
@@ -117,14 +118,14 @@ module _ (l made : Link) (edited : Edited) (m : Model) (cells : Cells) (same : i
 
   -- the number of the rule is what the judge made of the table's
   pub add_refusal : {fits there : Bool} {n : ℕ} → is_sound m ≡ true → fits ≡ in_range l → there ≡ present_in m l.tag
-      → n ≡ first edited.answer ((not fits, 1) ∷ (not there, 2) ∷ []) → refusal ((add_rule l).checks m cells) ≡ n
+      → n ≡ first (answer_of edited.outcome) ((not fits, 1) ∷ (not there, 2) ∷ []) → refusal ((add_rule l).checks m cells) ≡ n
   unfolding add_rule first
   add_refusal {fits} {there} {n} sound range here judged = go fits there (sym range) (sym here) judged
     where
       own : List Check
       own = (not (present_in m l.tag), 2) ∷ add_own l m.table
 
-      go : (f t : Bool) → in_range l ≡ f → present_in m l.tag ≡ t → n ≡ cond (not f) 1 (cond (not t) 2 edited.answer)
+      go : (f t : Bool) → in_range l ≡ f → present_in m l.tag ≡ t → n ≡ cond (not f) 1 (cond (not t) 2 (answer_of edited.outcome))
           → refusal (checks m (not (in_range l)) own) ≡ n
       go false t e h j = outside_range m (not (in_range l)) own sound (ap not e) ∙ sym j
       go true false e h j = own_checks m (not (in_range l)) own sound (ap not e) ∙ refused_by_lem _ 2 (add_own l m.table) (ap not h) ∙ sym j
@@ -133,7 +134,7 @@ module _ (l made : Link) (edited : Edited) (m : Model) (cells : Cells) (same : i
 
   -- where it is 0, the table's edit was done, with this link
   pub add_done : refusal ((add_rule l).checks m cells) ≡ 0
-      → (edited.moved ≡ add_moved l m.table) × (held_of edited.table ≡ holding (add_links l m.table))
+      → (count_of edited.outcome ≡ add_moved l m.table) × (held_of edited.state ≡ holding (add_links l m.table))
   unfolding table_add add_checks
   add_done e =
       let ok : Addable l m cells = addable l m cells e in
@@ -146,12 +147,12 @@ module _ (l made : Link) (edited : Edited) (m : Model) (cells : Cells) (same : i
 
 -- ---- remove link
 
-module _ (l made : Link) (edited : Edited) (m : Model) (cells : Cells) (same : in_range l ≡ true → made ≡ l) (told : edited_of edited ≡ tableEdited (table_remove made) m.table) where
-  remove_number : edited.answer ≡ refusal (unsound m.table ∷ remove_own made m.table)
+module _ (l made : Link) (edited : Answered Table) (m : Model) (cells : Cells) (same : in_range l ≡ true → made ≡ l) (told : edited_of edited ≡ tableEdited (table_remove made) m.table) where
+  remove_number : (answer_of edited.outcome) ≡ refusal (unsound m.table ∷ remove_own made m.table)
   unfolding table_remove
   remove_number = ap (λ (r : Result Held (Unit {0})). r.answer) told ∙ answer_is (table_remove made) m.table tt
 
-  pub remove_sound_told : not (eqb edited.answer 12) ≡ ofLinks.is_sound m.table
+  pub remove_sound_told : not (eqb (answer_of edited.outcome) 12) ≡ ofLinks.is_sound m.table
   unfolding first
   remove_sound_told = table_told m.table (remove_own made m.table) (never (not (is_in key_of made m.table.links))) remove_number
     where
@@ -159,22 +160,22 @@ module _ (l made : Link) (edited : Edited) (m : Model) (cells : Cells) (same : i
       never true e = omega arith
       never false e = omega arith
 
-  remove_own_lem : is_sound m ≡ true → in_range l ≡ true → refusal (remove_own l m.table) ≡ edited.answer
+  remove_own_lem : is_sound m ≡ true → in_range l ≡ true → refusal (remove_own l m.table) ≡ (answer_of edited.outcome)
   remove_own_lem sound range =
       sym (passed_by (not (ofLinks.is_sound m.table)) 12 (remove_own l m.table) (ap not (table_sound m sound)))
       ∙ ap (λ (k : Link). refusal (unsound m.table ∷ remove_own k m.table)) (sym (same range)) ∙ sym remove_number
 
-  pub remove_refusal : {fits : Bool} {n : ℕ} → is_sound m ≡ true → fits ≡ in_range l → n ≡ first edited.answer ((not fits, 1) ∷ [])
+  pub remove_refusal : {fits : Bool} {n : ℕ} → is_sound m ≡ true → fits ≡ in_range l → n ≡ first (answer_of edited.outcome) ((not fits, 1) ∷ [])
       → refusal ((remove_link_rule l).checks m cells) ≡ n
   unfolding remove_link_rule first
   remove_refusal {fits} {n} sound range judged = go fits (sym range) judged
     where
-      go : (f : Bool) → in_range l ≡ f → n ≡ cond (not f) 1 edited.answer → refusal (checks m (not (in_range l)) (remove_own l m.table)) ≡ n
+      go : (f : Bool) → in_range l ≡ f → n ≡ cond (not f) 1 (answer_of edited.outcome) → refusal (checks m (not (in_range l)) (remove_own l m.table)) ≡ n
       go false e j = outside_range m (not (in_range l)) (remove_own l m.table) sound (ap not e) ∙ sym j
       go true e j = own_checks m (not (in_range l)) (remove_own l m.table) sound (ap not e) ∙ remove_own_lem sound e ∙ sym j
 
   pub remove_done : refusal ((remove_link_rule l).checks m cells) ≡ 0
-      → (edited.moved ≡ remove_moved l m.table) × (held_of edited.table ≡ holding (remove_links l m.table))
+      → (count_of edited.outcome ≡ remove_moved l m.table) × (held_of edited.state ≡ holding (remove_links l m.table))
   unfolding table_remove
   remove_done e =
       let ok : Removable l m cells = removable l m cells e in

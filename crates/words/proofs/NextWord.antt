@@ -1,66 +1,40 @@
 -- How the words of a line are found: past the blanks, up to the next blank, and on from there. All by recursion on the line.
 -- Assumes nothing.
 use Prim.Native.Nat.{ℕ, zero, suc, ◌+◌, ◌≤◌, ◌<◌}
-use native.Mathlib.Numerals.{add-one}
 use native.Mathlib.Omega.{arith}
 use mathlib.Core.Path.{◌≡◌, refl, sym, ap, ◌∙◌}
 use mathlib.Core.Bool.{Bool, true, false, cond, not, ◌&&◌, true≢false}
 use mathlib.Core.List.{List, [], ◌∷◌}
-use lib.ListN.{length, get_or, take, drop, drop_of_length-le}
-use lib.Seq.{drop-cons}
+use lib.ListN.{length, take, drop, drop_of_length-le}
+use Rattle.std.proofs.Common.{nat_eq, one-add}
+use Rattle.std.specs.List.{prefix_len}
+use Rattle.std.specs.Cmp.Lexicographic.{pointwise}
 use lib.Dec.{eqb}
 use Rattle.texts.specs.Text.{same}
 use Rattle.words.specs.Words.{is_blank, word_ends, ahead, words, front, blanks, letters}
 
--- ---- a walk over the bytes that pass a test
+-- ---- std's words for the two tests
 
-module _ (p : ℕ → Bool) (xs : List ℕ) (i : ℕ) {r : ℕ} where
-  step : i < length xs → {t : Bool} → p (get_or xs i 0) ≡ t → i + front p (drop i xs) ≡ r → i + cond t (suc (front p (drop (suc i) xs))) zero ≡ r
-  unfolding front
-  step h {t} e w =
-      ap (λ (b : Bool). i + cond b (suc (front p (drop (suc i) xs))) zero) (sym e) ∙ ap (λ (l : List ℕ). i + front p l) (sym (drop-cons xs i 0 h)) ∙ w
-
-  pub front_more : i < length xs → p (get_or xs i 0) ≡ true → i + front p (drop i xs) ≡ r → (i + 1) + front p (drop (i + 1) xs) ≡ r
-  front_more h e w =
-      let next = step h e w in
-      let at : front p (drop (i + 1) xs) ≡ front p (drop (suc i) xs) = ap (λ (k : ℕ). front p (drop k xs)) (add-one i) in
-      omega (arith, next, at)
-
-  pub front_stops : i < length xs → p (get_or xs i 0) ≡ false → i + front p (drop i xs) ≡ r → i ≡ r
-  front_stops h e w = let next = step h e w in omega (arith, next)
-
-  pub front_end : length xs ≤ i → i + front p (drop i xs) ≡ r → i ≡ r
-  unfolding front
-  front_end h w = let none_left : front p (drop i xs) ≡ 0 = ap (front p) (drop_of_length-le xs h) in omega (arith, none_left, w)
-
--- what passes stands in the row
-pub front_within : (p : ℕ → Bool) (xs : List ℕ) → front p xs ≤ length xs
+-- the bytes at the front that pass
+pub front_counts : (p : ℕ → Bool) (xs : List ℕ) → prefix_len p xs ≡ front p xs
 unfolding front
-front_within p [] = omega arith
-front_within p (x ∷ xs) = go (p x) (front_within p xs)
-  where
-    go : (t : Bool) → front p xs ≤ length xs → cond t (suc (front p xs)) zero ≤ suc (length xs)
-    go true h = omega arith
-    go false h = omega arith
+front_counts p [] = refl
+front_counts p (x ∷ xs) = ap (λ (n : ℕ). cond (p x) n zero) (one-add (prefix_len p xs) ∙ ap suc (front_counts p xs))
 
--- ---- two rows byte by byte
+-- a row that ends before the place has none there
+pub front_past : (p : ℕ → Bool) (xs : List ℕ) (i : ℕ) → length xs ≤ i → i ≡ i + front p (drop i xs)
+unfolding front
+front_past p xs i h = let none_left : front p (drop i xs) ≡ 0 = ap (front p) (drop_of_length-le xs h) in omega (arith, none_left)
 
-module _ (xs ys : List ℕ) (i : ℕ) {r : Bool} where
-  pub same_more : i < length xs → i < length ys → {t : Bool} → eqb (get_or xs i 0) (get_or ys i 0) ≡ t → same (drop i xs) (drop i ys) ≡ r
-      → t && same (drop (i + 1) xs) (drop (i + 1) ys) ≡ r
-  unfolding same
-  same_more h k {t} e w =
-      ap (λ (n : ℕ). t && same (drop n xs) (drop n ys)) (add-one i)
-      ∙ ap (λ (b : Bool). b && same (drop (suc i) xs) (drop (suc i) ys)) (sym e)
-      ∙ ap (λ (l : List ℕ). same l (get_or ys i 0 ∷ drop (suc i) ys)) (sym (drop-cons xs i 0 h))
-      ∙ ap (λ (l : List ℕ). same (drop i xs) l) (sym (drop-cons ys i 0 k))
-      ∙ w
+-- two rows that are equal byte by byte
+pub same_bytes : (xs ys : List ℕ) → pointwise nat_eq xs ys ≡ same xs ys
+unfolding same
+same_bytes [] [] = refl
+same_bytes [] (y ∷ ys) = refl
+same_bytes (x ∷ xs) [] = refl
+same_bytes (x ∷ xs) (y ∷ ys) = ap (λ (t : Bool). eqb x y && t) (same_bytes xs ys)
 
-  pub same_end : length xs ≤ i → length ys ≤ i → same (drop i xs) (drop i ys) ≡ r → true ≡ r
-  unfolding same
-  same_end h k w =
-      sym (ap (λ (l : List ℕ). same l []) (drop_of_length-le xs h)) ∙ sym (ap (λ (l : List ℕ). same (drop i xs) l) (drop_of_length-le ys k)) ∙ w
-
+-- rows of another length are not the same
 pub other_length : (xs ys : List ℕ) → (length xs ≡ length ys → ⊥) → same xs ys ≡ false
 unfolding same
 other_length [] [] h = absurd (h refl)
@@ -71,6 +45,16 @@ other_length (x ∷ xs) (y ∷ ys) h = go (eqb x y) (other_length xs ys (λ e. h
     go : (t : Bool) {u : Bool} → u ≡ false → (t && u) ≡ false
     go true e = e
     go false e = refl
+
+-- what passes stands in the row
+pub front_within : (p : ℕ → Bool) (xs : List ℕ) → front p xs ≤ length xs
+unfolding front
+front_within p [] = omega arith
+front_within p (x ∷ xs) = go (p x) (front_within p xs)
+  where
+    go : (t : Bool) → front p xs ≤ length xs → cond t (suc (front p xs)) zero ≤ suc (length xs)
+    go true h = omega arith
+    go false h = omega arith
 
 -- ---- words
 

@@ -1,8 +1,9 @@
-// The edits and the inventory, each made n times: a call gets the panel that the one before left. Calls that undo each
-// other stand in one turn.
+// The edits and the inventory, each made n times. Calls that undo each other stand in one turn.
 use crate::bus_turns::position_at;
+use crate::course::{repeated, undone};
 use crate::panels::{FULL_RUN, asked};
 use crate::tally::Tally;
+use answers::Answered;
 use installs::install;
 use panel::Panel;
 use readings::inventory::inventory;
@@ -15,99 +16,70 @@ use writes::write_params;
 const SPLICED: u64 = 1;
 
 pub(crate) fn installs(first: Panel, tag: u64, n: u64) -> Tally {
-    let mut panel = first;
-    let mut tally = Tally::none();
     let params = asked();
-    for _ in 0..n {
-        let done = install(panel, tag, tag, params);
-        panel = done.panel;
-        tally = tally.with(done.answer, done.count);
-    }
-    tally.with_panel(panel)
+    repeated(first, n, |panel, _| install(panel, tag, tag, params))
 }
 
 pub(crate) fn removals(first: Panel, tag: u64, n: u64) -> Tally {
-    let mut panel = first;
-    let mut tally = Tally::none();
-    for _ in 0..n {
-        let done = remove_blind(panel, tag);
-        panel = done.panel;
-        tally = tally.with(done.answer, done.count);
-    }
-    tally.with_panel(panel)
+    repeated(first, n, |panel, _| remove_blind(panel, tag))
 }
 
 // Blind 0 gets back what it was after each call, so that the next one finds it not busy.
 pub(crate) fn writes(first: Panel, tag: u64, n: u64) -> Tally {
-    let mut panel = first;
-    let mut tally = Tally::none();
     let params = asked();
-    let rested = first.blinds[0];
-    for _ in 0..n {
-        let done = write_params(panel, tag, params);
-        panel = done.panel;
-        panel.blinds[0] = rested;
-        tally = tally.with(done.answer, done.count);
-    }
-    tally.with_panel(panel)
+    let rested = first.seats[0].blind;
+    repeated(first, n, |panel, _| {
+        let mut done = write_params(panel, tag, params);
+        done.state.seats[0].blind = rested;
+        done
+    })
 }
 
 // A blind is removed and installed again, and blind 0 gets back what it was. Its links go with the first removal.
 pub(crate) fn exchanges(first: Panel, tag: u64, n: u64) -> Tally {
-    let mut panel = first;
-    let mut tally = Tally::none();
     let params = asked();
-    let rested = first.blinds[0];
-    for _ in 0..n {
-        let removed = remove_blind(panel, tag);
-        panel = removed.panel;
-        tally = tally.with(removed.answer, removed.count);
-        let installed = install(panel, tag, tag, params);
-        panel = installed.panel;
-        panel.blinds[0] = rested;
-        tally = tally.with(installed.answer, installed.count);
-    }
-    tally.with_panel(panel)
+    let rested = first.seats[0].blind;
+    undone(
+        first,
+        n,
+        |panel| remove_blind(panel, tag),
+        |panel| {
+            let mut done = install(panel, tag, tag, params);
+            done.state.seats[0].blind = rested;
+            done
+        },
+    )
 }
 
 // A link of an address is added and removed.
 pub(crate) fn wirings(first: Panel, address: u64, n: u64) -> Tally {
-    let mut panel = first;
-    let mut tally = Tally::none();
-    for _ in 0..n {
-        let added = add_link(panel, address, 0, FULL_RUN);
-        panel = added.panel;
-        tally = tally.with(added.answer, added.count);
-        let removed = remove_link(panel, address, 0, FULL_RUN);
-        panel = removed.panel;
-        tally = tally.with(removed.answer, removed.count);
-    }
-    tally.with_panel(panel)
+    undone(
+        first,
+        n,
+        |panel| add_link(panel, address, 0, FULL_RUN),
+        |panel| remove_link(panel, address, 0, FULL_RUN),
+    )
 }
 
 // A terminal is spliced in and out.
 pub(crate) fn splicings(first: Panel, t: u64, n: u64) -> Tally {
-    let mut panel = first;
-    let mut tally = Tally::none();
-    for _ in 0..n {
-        let raised = splice_in(panel, t, SPLICED);
-        panel = raised.panel;
-        tally = tally.with(raised.answer, raised.count);
-        let lowered = splice_out(panel, t, SPLICED);
-        panel = lowered.panel;
-        tally = tally.with(lowered.answer, lowered.count);
-    }
-    tally.with_panel(panel)
+    undone(
+        first,
+        n,
+        |panel| splice_in(panel, t, SPLICED),
+        |panel| splice_out(panel, t, SPLICED),
+    )
 }
 
 // A position changes before each inventory, so that each is one of another panel.
 pub(crate) fn inventories(first: Panel, n: u64) -> Tally {
-    let mut panel = first;
-    let mut tally = Tally::none();
-    for turn in 0..n {
-        panel.blinds[0].place.position = position_at(turn);
-        let stock = inventory(panel);
-        tally = tally.with(stock.answer, stock.blinds as u64);
-    }
-    tally.with_panel(panel)
+    repeated(first, n, |panel, turn| {
+        let mut next = panel;
+        next.seats[0].blind.place.position = position_at(turn);
+        let outcome = inventory(&next).map(|stock| u64::from(stock.blinds));
+        Answered {
+            outcome,
+            state: next,
+        }
+    })
 }

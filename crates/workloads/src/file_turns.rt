@@ -1,42 +1,42 @@
 // Plant files, each written or read n times.
 use crate::bus_turns::position_at;
+use crate::course::repeated;
 use crate::tally::Tally;
+use answers::Answered;
 use panel::Panel;
-use plant_reader::read;
+use plant_reader::{BadLine, read};
 use plant_writer::write;
 
 const LINE_FEED: u8 = 10;
 
 // A position changes before each writing, so that each is of another panel.
 pub(crate) fn writings(first: Panel, n: u64, file: &mut [u8]) -> Tally {
-    let mut panel = first;
-    let mut tally = Tally::none();
-    for turn in 0..n {
-        panel.blinds[0].place.position = position_at(turn);
-        let done = write(panel, file);
-        tally = tally.with(done.answer, done.length as u64);
-    }
-    tally.with_panel(panel).with_commands(file)
+    let tally = repeated(first, n, |panel, turn| {
+        let mut next = panel;
+        next.seats[0].blind.place.position = position_at(turn);
+        let outcome = write(&next, file).map(|length| length as u64);
+        Answered {
+            outcome,
+            state: next,
+        }
+    });
+    tally.with_cells(file)
 }
 
 // The number of the bad line is counted, and the panel that was read last.
 pub(crate) fn file_readings(file: &[u8], n: u64) -> Tally {
-    let mut panel = Panel::empty();
-    let mut tally = Tally::none();
-    for _ in 0..n {
-        let done = read(file);
-        panel = done.panel;
-        tally = tally.with(0, done.line);
-    }
-    tally.with_panel(panel)
+    repeated(Panel::empty(), n, |_, _| match read(file) {
+        Ok(panel) => Answered::done(panel, 0),
+        Err(BadLine(line)) => Answered::done(Panel::empty(), line),
+    })
 }
 
 // Rubbish: two bytes in turn up to the end, which is a line feed.
 pub(crate) fn fill(file: &mut [u8], even: u8, odd: u8) {
-    for i in 0..file.len() {
-        file[i] = if i % 2 == 0 { even } else { odd };
+    for (i, byte) in file.iter_mut().enumerate() {
+        *byte = if i % 2 == 0 { even } else { odd };
     }
-    if file.len() > 0 {
-        file[file.len() - 1] = LINE_FEED;
+    if let Some(last) = file.last_mut() {
+        *last = LINE_FEED;
     }
 }

@@ -1,23 +1,17 @@
 // The search in the link table, made n times: for the links of an address of the table, each time of another one.
-use crate::panels::address_of;
+use crate::panels::Size;
 use crate::tally::Tally;
 use link::words::ADDRESS_STEP;
 use panel::Panel;
-use std::num::wrapping_add_u64;
-use table::search::below;
 
-pub(crate) fn lookups(panel: Panel, blinds: u64, links: u64, n: u64) -> Tally {
+pub(crate) fn lookups(panel: Panel, size: Size, n: u64) -> Tally {
     let table = panel.table;
     let mut tally = Tally::none();
     let mut place: u64 = 0;
     for _ in 0..n {
-        place = further(place, links);
-        let found = below(
-            &table.words,
-            table.count,
-            first_key(address_of(place, blinds, links)),
-        );
-        tally = tally.with(0, found as u64);
+        place = further(place, size.links);
+        let key = first_key(size.address_of(place));
+        tally = tally.with(Ok(table.below(key) as u64));
     }
     tally.with_panel(panel)
 }
@@ -27,7 +21,7 @@ fn further(place: u64, links: u64) -> u64 {
     if links == 0 {
         return 0;
     }
-    wrapping_add_u64(place, links / 2 + 1) % links
+    place.wrapping_add(links / 2 + 1) % links
 }
 
 fn first_key(address: u64) -> u64 {

@@ -4,6 +4,8 @@
 #![tactic(auto)]
 
 mod bus_turns;
+mod calls;
+mod course;
 mod edit_turns;
 mod file_turns;
 mod lines;
@@ -34,14 +36,7 @@ fn main(rt: HostRuntime) {
         run_all(&rt);
         return;
     }
-    let workload = Workload {
-        call: argument(&rt, 1),
-        case: argument(&rt, 2),
-        blinds: argument(&rt, 3),
-        links: argument(&rt, 4),
-        turns: argument(&rt, 5),
-    };
-    write_line(&rt, workload, workload.run());
+    run_one(&rt, [1, 2, 3, 4, 5].map(|place| argument(&rt, place)));
 }
 
 fn run_all<R: Print>(rt: &R) {
@@ -52,22 +47,15 @@ fn run_all<R: Print>(rt: &R) {
 
 fn run_cases<R: Print>(rt: &R, call: u64) {
     for case in 0..CASES {
-        run_one(rt, call, case);
+        run_one(rt, [call, case, 64, 512, 2]);
     }
 }
 
-fn run_one<R: Print>(rt: &R, call: u64, case: u64) {
-    let workload = Workload {
-        call,
-        case,
-        blinds: 64,
-        links: 512,
-        turns: 2,
-    };
-    write_line(rt, workload, workload.run());
+fn run_one<R: Print>(rt: &R, numbers: [u64; 5]) {
+    write_line(rt, numbers, Workload::of(numbers).run());
 }
 
-// Whether there is an argument of this place; the program's own name has place 0.
+// Whether there is an argument of this place; the program's own name has place 0. replay has the same function, and says why it is not shared.
 fn is_given<R: Env>(rt: &R, i: usize) -> bool {
     let mut none = [0u8; 0];
     !matches!(rt.arg(i, &mut none), Err(FillError::NotPresent))
@@ -81,21 +69,13 @@ fn argument<R: Env>(rt: &R, i: usize) -> u64 {
 }
 
 fn number(text: &[u8]) -> u64 {
-    let mut value = 0;
-    let mut i = 0;
-    while i < text.len() {
-        value = with_digit(value, text[i]);
-        i += 1;
-    }
-    value
+    text.iter()
+        .fold(0, |value, digit| with_digit(value, *digit))
 }
 
 fn with_digit(value: u64, digit: u8) -> u64 {
-    if digit < b'0' {
+    if digit < b'0' || MOST < value {
         return value;
     }
-    if MOST < value {
-        return value;
-    }
-    value * 10 + (digit - b'0') as u64
+    value * 10 + u64::from(digit - b'0')
 }

@@ -1,15 +1,16 @@
 // The panels that the workloads start from, built by the panel's own calls: so many blinds, at rest or all of them
 // running, and so many links, of which some share one address in the middle of the table.
 use installs::install;
+use kinds::Kind;
 use panel::Panel;
 use params::Asked;
-use std::num::wrapping_add_u64;
+use tags::CELLS;
 use telegrams::telegram;
 use time_steps::time_step;
 use wiring::{add_link, remove_link};
 
 // The kind MUD, a full run: every link is of it.
-pub(crate) const FULL_RUN: u64 = 4;
+pub(crate) const FULL_RUN: u64 = Kind::Mud as u64;
 
 // The address below all others, at which links come and go.
 pub(crate) const FRONT: u64 = 1;
@@ -28,23 +29,65 @@ const AFTER: u64 = 2000;
 // The rest time of a fresh blind, after which an order starts at once.
 const REST: u64 = 500;
 
-// A panel with so many blinds, all of them at rest or all running down, and so many links.
-pub(crate) fn fitted(blinds: u64, links: u64, run: bool) -> Panel {
-    let rested = rest(with_blinds(blinds));
-    if run {
-        with_links(started(rested, blinds), blinds, links)
-    } else {
-        with_links(rested, blinds, links)
-    }
+// How many blinds and links a panel has.
+#[derive(Clone, Copy)]
+pub(crate) struct Size {
+    pub(crate) blinds: u64,
+    pub(crate) links: u64,
 }
 
-// The address of a link that stands alone, right before the shared ones.
-pub(crate) fn alone(blinds: u64, links: u64) -> u64 {
-    let many = lone_before(blinds, links);
-    if many == 0 {
-        return BEFORE;
+impl Size {
+    // A panel of this size, all its blinds at rest or all of them running down.
+    pub(crate) fn fitted(self, run: bool) -> Panel {
+        let rested = rest(with_blinds(self.blinds));
+        if run {
+            self.with_links(started(rested, self.blinds))
+        } else {
+            self.with_links(rested)
+        }
     }
-    wrapping_add_u64(BEFORE, many - 1)
+
+    fn with_links(self, panel: Panel) -> Panel {
+        (0..self.links).fold(panel, |next, place| {
+            add_link(next, self.address_of(place), self.tag_of(place), FULL_RUN).state
+        })
+    }
+
+    // The address of a link that stands alone, right before the shared ones.
+    pub(crate) fn alone(self) -> u64 {
+        BEFORE.wrapping_add(self.lone_before().saturating_sub(1))
+    }
+
+    // A blind each has one of the shared links, as far as half of the table goes.
+    fn shared(self) -> u64 {
+        self.blinds.min(self.links / 2)
+    }
+
+    // Half of the links that stand alone come before the shared ones.
+    fn lone_before(self) -> u64 {
+        self.links.saturating_sub(self.shared()) / 2
+    }
+
+    pub(crate) fn address_of(self, place: u64) -> u64 {
+        let together = self.shared();
+        if place < together {
+            return SHARED;
+        }
+        let lone = place - together;
+        if lone < self.lone_before() {
+            BEFORE.wrapping_add(lone)
+        } else {
+            AFTER.wrapping_add(lone)
+        }
+    }
+
+    fn tag_of(self, place: u64) -> u64 {
+        if self.blinds == 0 {
+            0
+        } else {
+            place % self.blinds
+        }
+    }
 }
 
 // The longest full run, so that blinds run for many calls, and the defaults else.
@@ -57,83 +100,24 @@ pub(crate) fn asked() -> Asked {
 }
 
 fn with_blinds(blinds: u64) -> Panel {
-    let mut panel = Panel::empty();
-    for tag in 0..blinds {
-        panel = with_blind(panel, tag);
-    }
-    panel
-}
-
-fn with_blind(panel: Panel, tag: u64) -> Panel {
-    let done = install(panel, tag, tag, asked());
-    done.panel
+    (0..blinds).fold(Panel::empty(), |panel, tag| {
+        install(panel, tag, tag, asked()).state
+    })
 }
 
 fn rest(panel: Panel) -> Panel {
-    let mut cells = [0u16; 64];
-    let done = time_step(panel, REST, &mut cells);
-    done.panel
+    let mut cells = [0u16; CELLS];
+    time_step(panel, REST, &mut cells).state
 }
 
 fn started(panel: Panel, blinds: u64) -> Panel {
-    let mut next = panel;
-    for tag in 0..blinds {
-        next = start(next, tag);
-    }
-    next
+    (0..blinds).fold(panel, start)
 }
 
 // A link that stays only for the telegram that starts the blind.
 fn start(panel: Panel, tag: u64) -> Panel {
-    let mut cells = [0u16; 64];
+    let mut cells = [0u16; CELLS];
     let linked = add_link(panel, FRONT, tag, FULL_RUN);
-    let told = telegram(linked.panel, FRONT, 1, &mut cells);
-    let done = remove_link(told.panel, FRONT, tag, FULL_RUN);
-    done.panel
-}
-
-fn with_links(panel: Panel, blinds: u64, links: u64) -> Panel {
-    let mut next = panel;
-    for place in 0..links {
-        next = with_link(next, place, blinds, links);
-    }
-    next
-}
-
-fn with_link(panel: Panel, place: u64, blinds: u64, links: u64) -> Panel {
-    let address = address_of(place, blinds, links);
-    let done = add_link(panel, address, tag_of(place, blinds), FULL_RUN);
-    done.panel
-}
-
-// A blind each has one of the shared links, as far as half of the table goes.
-fn shared(blinds: u64, links: u64) -> u64 {
-    let half = links / 2;
-    if blinds < half { blinds } else { half }
-}
-
-// Half of the links that stand alone come before the shared ones.
-fn lone_before(blinds: u64, links: u64) -> u64 {
-    let together = shared(blinds, links);
-    if links < together {
-        return 0;
-    }
-    (links - together) / 2
-}
-
-pub(crate) fn address_of(place: u64, blinds: u64, links: u64) -> u64 {
-    let together = shared(blinds, links);
-    if place < together {
-        return SHARED;
-    }
-    let lone = place - together;
-    if lone < lone_before(blinds, links) {
-        wrapping_add_u64(BEFORE, lone)
-    } else {
-        wrapping_add_u64(AFTER, lone)
-    }
-}
-
-fn tag_of(place: u64, blinds: u64) -> u64 {
-    if blinds == 0 { 0 } else { place % blinds }
+    let told = telegram(linked.state, FRONT, 1, &mut cells);
+    remove_link(told.state, FRONT, tag, FULL_RUN).state
 }

@@ -1,12 +1,12 @@
 // What a workload tells: the last answer, and a sum over all answers, counts, cells and the panel at the end, so that
 // no call can be left out unnoticed.
-use blind::Blind;
-use panel::Panel;
-use std::num::wrapping_add_u64;
-use tags::Tags;
+use answers::{Refusal, number};
+use panel::{Panel, Seat};
+use tags::CELLS;
 
 #[derive(Clone, Copy)]
 pub(crate) struct Tally {
+    // A number, as it is printed.
     pub(crate) answer: u8,
     pub(crate) sum: u64,
 }
@@ -17,59 +17,36 @@ impl Tally {
     }
 
     // One more answer with its count.
-    pub(crate) fn with(self, answer: u8, count: u64) -> Tally {
-        let number = wrapping_add_u64(self.sum, answer as u64);
+    pub(crate) fn with(self, outcome: Result<u64, Refusal>) -> Tally {
+        let answer = number(outcome);
+        let sum = self.sum.wrapping_add(u64::from(answer));
         Tally {
             answer,
-            sum: wrapping_add_u64(number, count),
+            sum: sum.wrapping_add(outcome.unwrap_or(0)),
         }
     }
 
     // The panel as the last call left it.
     pub(crate) fn with_panel(self, panel: Panel) -> Tally {
-        let present = panel.present;
-        let mut sum = wrapping_add_u64(self.sum, panel.table.count as u64);
-        for tag in 0..64 {
-            let terminal = panel.terminals[tag];
-            let blind = panel.blinds[tag];
-            sum = wrapping_add_u64(sum, place(present, tag, terminal, blind));
-        }
+        let links = self.sum.wrapping_add(panel.table.count as u64);
+        let sum = (0..CELLS)
+            .filter_map(|tag| panel.seat(tag))
+            .fold(links, |sum, seat| sum.wrapping_add(place(seat)));
         Tally { sum, ..self }
     }
 
-    pub(crate) fn with_reports(self, cells: &[u16]) -> Tally {
-        let mut sum = self.sum;
-        let mut i = 0;
-        while i < cells.len() {
-            sum = wrapping_add_u64(sum, wide(cells[i]));
-            i += 1;
-        }
-        Tally { sum, ..self }
-    }
-
-    pub(crate) fn with_commands(self, cells: &[u8]) -> Tally {
-        let mut sum = self.sum;
-        let mut i = 0;
-        while i < cells.len() {
-            sum = wrapping_add_u64(sum, wider(cells[i]));
-            i += 1;
-        }
+    // What the calls left in the cells that they were lent, or in the file.
+    pub(crate) fn with_cells<T: Copy>(self, cells: &[T]) -> Tally
+    where
+        u64: From<T>,
+    {
+        let sum = cells
+            .iter()
+            .fold(self.sum, |sum, cell| sum.wrapping_add(u64::from(*cell)));
         Tally { sum, ..self }
     }
 }
 
-fn place(present: Tags, tag: usize, terminal: u8, blind: Blind) -> u64 {
-    if present.has(tag as u64) {
-        wrapping_add_u64(terminal as u64, blind.place.position as u64)
-    } else {
-        0
-    }
-}
-
-fn wide(cell: u16) -> u64 {
-    cell as u64
-}
-
-fn wider(cell: u8) -> u64 {
-    cell as u64
+fn place(seat: Seat) -> u64 {
+    u64::from(seat.terminal).wrapping_add(u64::from(seat.blind.place.position))
 }

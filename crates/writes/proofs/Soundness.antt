@@ -7,7 +7,8 @@ use Rattle.answers.specs.Answers.{refusal}
 use Rattle.params.specs.Numbers.{params_of}
 use Rattle.params.proofs.Ranges.{allowed_sound}
 use Rattle.conduct.proofs.SoundCourses.{rewritten_sound}
-use Rattle.panel.specs.Panel.{Seat, Model, reseated}
+use Rattle.panel.specs.declared.Seat.{Seat}
+use Rattle.panel.specs.Panel.{Model, reseated}
 use Rattle.panel.specs.Sound.{Sound, Fine}
 use Rattle.panel.specs.Calls.{Cells}
 use Rattle.panel.proofs.Kept.{seat_sound}

@@ -1,35 +1,32 @@
 -- What the panel stands for after a write of parameters. Assumes nothing.
-use Prim.Native.Nat.{ℕ, ◌%◌, ◌<◌}
+use Prim.Native.Nat.{ℕ, ◌<◌}
 use native.Mathlib.Omega.{arith}
-use mathlib.Core.Path.{◌≡◌, refl, sym, ap, ap₂, ◌∙◌}
-use mathlib.Core.Bool.{true}
+use mathlib.Core.Path.{◌≡◌, sym, ap, ap₂, ◌∙◌}
 use mathlib.Core.List.{List}
 use mathlib.Core.Option.{Option, some, map}
-use lib.ListN.{length, get_or, set}
+use lib.ListN.{length, set}
+use Rattle.std.specs.Prelude.{Some}
 use Rattle.params.specs.declared.Params.{Params}
 use Rattle.params.specs.Numbers.{params_of}
 use Rattle.blind.specs.declared.Blind.{Blind}
 use Rattle.rules.specs.Edits.{rewritten}
-use Rattle.tags.specs.Tags.{places, tags_of}
+use Rattle.tags.specs.Tags.{places}
 use Rattle.panel.specs.declared.Panel.{Panel}
-use Rattle.panel.specs.Panel.{Seat, nobody, seats_of, model_of, present_in, reseated}
-use Rattle.panel.specs.Fields.{with_blinds}
-use Rattle.panel.proofs.Seats.{seat_present, blind_written}
-use Rattle.seats.proofs.Present.{present_at}
+use Rattle.panel.specs.declared.Seat.{Seat}
+use Rattle.panel.specs.Panel.{place_of, seats_of, seat_at, model_of, reseated}
+use Rattle.panel.specs.Fields.{with_seats}
+use Rattle.panel.proofs.Seats.{seat_given, seat_found, seat_written}
 use Rattle.writes.specs.Writes.{seat_rewritten}
 
--- the blind is rewritten at its place
-pub rewritten_at : (p : Panel) (tag : ℕ) (a : List ℕ) (b : Blind) (params : Params) → present_in (model_of p) tag ≡ true
-    → tag < places → length p.blinds ≡ places → params ≡ params_of a → b ≡ rewritten params (get_or p.blinds (tag % places) nobody)
-    → model_of (with_blinds (set p.blinds (tag % places) b) p)
+-- the blind is rewritten where it stands
+pub rewritten_at : (p : Panel) (tag : ℕ) (a : List ℕ) (seat : Seat) (b : Blind) (params : Params) → seat_at p tag ≡ Some seat
+    → tag < places → length p.seats ≡ places → params ≡ params_of a → b ≡ rewritten params seat.blind
+    → model_of (with_seats (set p.seats tag (record { terminal = (place_of p tag).terminal; blind = b })) p)
     ≡ reseated tag (map (seat_rewritten (params_of a)) (seats_of p tag)) (model_of p)
-rewritten_at p tag a b params there low long asked new =
-    let here : tags_of p.present tag ≡ true = sym (present_at p tag refl) ∙ there in
-    let same : tag % 64 ≡ tag = omega arith in
-    let blind : b ≡ rewritten (params_of a) (get_or p.blinds tag nobody) =
-    new ∙ ap₂ (λ (q : Params) (k : ℕ). rewritten q (get_or p.blinds k nobody)) asked same in
-    ap (λ (k : ℕ). model_of (with_blinds (set p.blinds k b) p)) same
-    ∙ blind_written p tag b here (omega (arith, low, long))
-    ∙ ap (λ (s : Option Seat). reseated tag s (model_of p))
-    (ap (λ (x : Blind). some (record { terminal = get_or p.terminals tag 0; blind = x })) blind
-    ∙ sym (ap (map (seat_rewritten (params_of a))) (seat_present p tag here)))
+rewritten_at p tag a seat b params at low long asked new =
+    let given = seat_given p tag (sym at) in
+    seat_written p tag (record { terminal = (place_of p tag).terminal; blind = b }) given.0 (omega (arith, low, long))
+    ∙ ap (λ (o : Option Seat). reseated tag o (model_of p))
+    (ap₂ (λ (t : ℕ) (x : Blind). some (record { terminal = t; blind = x })) (sym (ap (λ (s : Seat). s.terminal) given.1))
+    (new ∙ ap (λ (q : Params). rewritten q seat.blind) asked)
+    ∙ ap (map (seat_rewritten (params_of a))) (seat_found p tag (sym at)))

@@ -7,7 +7,8 @@ use Rattle.params.specs.declared.Params.{Params}
 use Rattle.params.specs.Numbers.{params_of, allowed}
 use Rattle.rules.specs.Edits.{rewritten}
 use Rattle.tags.specs.Tags.{places}
-use Rattle.panel.specs.Panel.{Seat, reseated}
+use Rattle.panel.specs.declared.Seat.{Seat}
+use Rattle.panel.specs.Panel.{reseated}
 use Rattle.panel.specs.Calls.{checks, CallRule}
 use Rattle.seats.specs.Seats.{named_checks}
 

@@ -9,4 +9,4 @@ use Rattle.display.proofs.percent.Goals as goal
 
 pub returns : goal.returns
 unfolding tabulate percent_of nearest
-returns c = tabulate_at 256 percent_of c.args.raw 0 (search rules)
+returns c = rw c.from.ensures (tabulate_at 256 percent_of c.args.raw 0 (search rules))

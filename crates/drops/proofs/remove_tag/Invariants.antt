@@ -1,11 +1,6 @@
--- The calls of each turn say whether a link stays, what it stores, whether it takes its place and whether it moves, and the record of the
--- walk goes on.
-use Rattle.std.proofs.Common.{◌-◌}
+-- What is stored and what still stays are all that stay; and so with those that have moved.
 use Rattle.drops.proofs.Dropped.{Swept}
 use Rattle.drops.proofs.remove_tag.Given as goal
 
-abbrev pub invariant-loop-i : goal.invariant-loop-i
-invariant-loop-i l = Swept l.tag l.table l.words l.free l.moved l.i
-
-abbrev pub decreases-loop-i : goal.decreases-loop-i
-decreases-loop-i l = l.count - l.i
+abbrev pub invariant-loop-place : goal.invariant-loop-place
+invariant-loop-place l = Swept l.tag l.fn.table l.words l.free l.moved l.place

@@ -4,25 +4,23 @@ use Rattle.std.proofs.Common.{◌≡◌, Bool, true, false, [], ◌∷◌, sym, 
 use Rattle.answers.specs.Answers.{refusal}
 use Rattle.panel.specs.Panel.{model_of}
 use Rattle.panel.specs.Sound.{is_sound}
-use Rattle.panel.proofs.Decides.{parts_decide}
 use Rattle.panel.proofs.Checks.{not_sound, outside_range, own_checks}
 use Rattle.seats.specs.Seats.{in_use, busy_from, would_pass}
-use Rattle.seats.proofs.Walk.{rest_all, met_more, met_end}
+use Rattle.seats.proofs.Walk.{rest_all, met_seat, met_none, met_end}
 use Rattle.splices.specs.Splices.{off_strip}
 use Rattle.splices.specs.Places.{splice_rule}
 use Rattle.splices.proofs.Strip.{on_strip}
+use Rattle.splices.proofs.judge.Goals.{in-Some, in_default}
 use Rattle.splices.proofs.judge.Goals as goal
 
 pub returns-then-not-is_sound : goal.returns-then-not-is_sound
 unfolding splice_rule
-returns-then-not-is_sound c =
-    sym (not_sound _ _ _ (sym (parts_decide c.args.panel c.seats_sound-seated.ensures c.is_sound.ensures) ∙ c.if-not-is_sound.true))
+returns-then-not-is_sound c = sym (not_sound _ _ _ (sym c.is_sound.ensures ∙ c.if-not-is_sound.true))
 
 pub returns-then-is_off_strip : goal.returns-then-is_off_strip
 unfolding splice_rule
 returns-then-is_off_strip c =
-    let sound : is_sound (model_of c.args.panel) ≡ true = sym (parts_decide c.args.panel c.seats_sound-seated.ensures c.is_sound.ensures) ∙ c.if-not-is_sound.false in
-    sym (outside_range _ _ _ sound (sym c.is_off_strip.ensures ∙ c.if-is_off_strip.true))
+    sym (outside_range _ _ _ (sym c.is_sound.ensures ∙ c.if-not-is_sound.false) (sym c.is_off_strip.ensures ∙ c.if-is_off_strip.true))
 
 pub overflow_add-from : goal.overflow_add-from
 overflow_add-from c = omega (arith, (on_strip _ _ (sym c.is_off_strip.ensures ∙ c.if-is_off_strip.false)).end, c.requires)
@@ -31,11 +29,19 @@ pub loop-tag-init : goal.loop-tag-init
 loop-tag-init c = record { used = rest_all _ _; busy = rest_all _ _; past = rest_all _ _ }
 
 pub loop-tag-preserved : goal.loop-tag-preserved
-loop-tag-preserved c = record {
-  used = met_more _ _ c.loop-tag.tag c.loop-tag.used c.loop-tag-test.true c.stands_within-used.ensures c.loop-tag.invariant.used;
-  busy = met_more _ _ c.loop-tag.tag c.loop-tag.busy c.loop-tag-test.true c.is_busy_above-busy.ensures c.loop-tag.invariant.busy;
-  past = met_more _ _ c.loop-tag.tag c.loop-tag.past c.loop-tag-test.true c.passes_end-past.ensures c.loop-tag.invariant.past;
-}
+loop-tag-preserved c =
+    elim c.match-seat.branch [
+      | in-Some w ↦ record {
+        used = met_seat _ _ c.loop-tag.tag c.loop-tag.used c.loop-tag-test.true w.in-Some.ensures w.stands_within-used.ensures w.used-is c.loop-tag.invariant.used;
+        busy = met_seat _ _ c.loop-tag.tag c.loop-tag.busy c.loop-tag-test.true w.in-Some.ensures w.is_busy_above-busy.ensures w.busy-is c.loop-tag.invariant.busy;
+        past = met_seat _ _ c.loop-tag.tag c.loop-tag.past c.loop-tag-test.true w.in-Some.ensures w.passes_end-past.ensures w.past-is c.loop-tag.invariant.past;
+      }
+      | in_default w ↦ record {
+        used = met_none _ _ c.loop-tag.tag c.loop-tag.used c.loop-tag-test.true w.in_default.ensures w.used-is c.loop-tag.invariant.used;
+        busy = met_none _ _ c.loop-tag.tag c.loop-tag.busy c.loop-tag-test.true w.in_default.ensures w.busy-is c.loop-tag.invariant.busy;
+        past = met_none _ _ c.loop-tag.tag c.loop-tag.past c.loop-tag-test.true w.in_default.ensures w.past-is c.loop-tag.invariant.past;
+      }
+    ]
 
 -- the three checks with what they ask
 told : {a b c x y z : Bool} → a ≡ x → b ≡ y → c ≡ z → refusal ((a, 10) ∷ (b, 3) ∷ (c, 9) ∷ []) ≡ refusal ((x, 10) ∷ (y, 3) ∷ (z, 9) ∷ [])
@@ -44,7 +50,7 @@ told p q r = rw (p, q, r)
 pub returns : goal.returns
 unfolding splice_rule in_use busy_from would_pass
 returns c =
-    let sound : is_sound (model_of c.args.panel) ≡ true = sym (parts_decide c.args.panel c.seats_sound-seated.ensures c.is_sound.ensures) ∙ c.if-not-is_sound.false in
+    let sound : is_sound (model_of c.args.panel.now) ≡ true = sym c.is_sound.ensures ∙ c.if-not-is_sound.false in
     let on : off_strip c.args.t c.args.n ≡ false = sym c.is_off_strip.ensures ∙ c.if-is_off_strip.false in
     c.first_met.ensures
     ∙ told

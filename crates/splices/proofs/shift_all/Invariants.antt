@@ -7,4 +7,4 @@ use Rattle.splices.specs.Places.{moved, place_shifted}
 use Rattle.splices.proofs.shift_all.Given as goal
 
 abbrev pub invariant-loop-tag : goal.invariant-loop-tag
-invariant-loop-tag l = l.next ≡ filled (place_shifted (tags_of l.present) (moved l.t l.up l.down) l.terminals) l.tag l.terminals
+invariant-loop-tag l = l.seats ≡ filled (place_shifted (tags_of l.present) (moved l.t l.up l.down) l.initial.seats) l.tag l.initial.seats

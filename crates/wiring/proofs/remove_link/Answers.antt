@@ -1,18 +1,17 @@
 -- The seats, the table's own answer and the names tell whether the panel is sound; then the judge's number is the rule's, and
 -- where it is 0 the table's edit was done with this very link.
 -- Assumes nothing.
-use Rattle.std.proofs.Common.{◌≡◌, Bool, true, not, ◌&&◌, eqb, refl, sym, ◌∙◌}
+use Rattle.std.proofs.Common.{◌≡◌, true, refl, sym, ap, ◌∙◌}
 use Rattle.answers.specs.Answers.{refusal}
-use Rattle.link.specs.declared.Link.{Link}
+use Rattle.answers.specs.Numbers.{count_of}
 use Rattle.link.specs.Link.{in_range, link_of}
 use Rattle.link.proofs.Ranges.{made_fits}
-use Rattle.panel.specs.declared.Panel.{Panel}
 use Rattle.panel.specs.Panel.{model_of}
 use Rattle.panel.specs.Sound.{is_sound}
 use Rattle.panel.specs.Calls.{no_cells}
 use Rattle.panel.proofs.Decides.{seats_fail}
 use Rattle.panel.proofs.Checks.{not_sound}
-use Rattle.panel.proofs.Rules.{refuses, refuses_with, does}
+use Rattle.panel.proofs.Rules.{refuses, does}
 use Rattle.wiring.specs.Wiring.{remove_link_rule}
 use Rattle.wiring.proofs.LinkEdits.{whole_sound, table_written, remove_sound_told, remove_refusal, remove_done}
 use Rattle.wiring.proofs.remove_link.Goals as goal
@@ -20,39 +19,39 @@ use Rattle.wiring.proofs.remove_link.Goals as goal
 pub returns-then-not-seats_sound : goal.returns-then-not-seats_sound
 unfolding remove_link_rule
 returns-then-not-seats_sound c =
-    refuses _ _ _ 12 refl (not_sound _ _ _ (seats_fail _ (sym (c.seats_sound.ensures c.args.panel.table) ∙ c.if-not-seats_sound.true)))
+    refuses _ _ _ c.refused.ensures (not_sound _ _ _ (seats_fail _ (sym c.seats_sound.ensures ∙ c.if-not-seats_sound.true)))
 
-pub returns-then-not-sound : goal.returns-then-not-sound
+pub returns-then-not-links_sound : goal.returns-then-not-links_sound
 unfolding remove_link_rule
-returns-then-not-sound c =
+returns-then-not-links_sound c =
     let p = c.args.panel in
     let l = link_of c.args.address c.args.tag c.args.kind in
     let same : in_range l ≡ true → c.made.result ≡ l = λ fits. c.made.ensures ∙ made_fits _ _ _ fits in
-    let whole = whole_sound p (sym (c.seats_sound.ensures p.table) ∙ c.if-not-seats_sound.false)
-    (remove_sound_told _ _ c.remove-shrunk.result (model_of p) no_cells same c.remove-shrunk.ensures) c.all_named.ensures in
-    refuses _ _ _ 12 refl (not_sound _ _ _ (sym whole ∙ c.if-not-sound.true))
+    let whole = whole_sound p (sym c.seats_sound.ensures ∙ c.if-not-seats_sound.false)
+    (remove_sound_told _ _ c.remove-shrunk.result (model_of p) no_cells same c.remove-shrunk.ensures) refl in
+    refuses _ _ _ c.refused-then-not-links_sound.ensures (not_sound _ _ _ (sym whole ∙ sym c.links_sound.ensures ∙ c.if-not-links_sound.true))
 
-pub returns-then-answer-ne-DONE : goal.returns-then-answer-ne-DONE
-returns-then-answer-ne-DONE c =
+pub returns-in-Err : goal.returns-in-Err
+returns-in-Err c =
     let p = c.args.panel in
     let l = link_of c.args.address c.args.tag c.args.kind in
     let same : in_range l ≡ true → c.made.result ≡ l = λ fits. c.made.ensures ∙ made_fits _ _ _ fits in
-    let whole = whole_sound p (sym (c.seats_sound.ensures p.table) ∙ c.if-not-seats_sound.false)
-    (remove_sound_told _ _ c.remove-shrunk.result (model_of p) no_cells same c.remove-shrunk.ensures) c.all_named.ensures in
-    let sound : is_sound (model_of p) ≡ true = sym whole ∙ c.if-not-sound.false in
-    refuses_with _ _ _ _ c.if-answer-ne-DONE.true
-    (remove_refusal _ _ c.remove-shrunk.result _ no_cells same c.remove-shrunk.ensures sound c.fits.ensures c.judge_old-answer.ensures)
+    let whole = whole_sound p (sym c.seats_sound.ensures ∙ c.if-not-seats_sound.false)
+    (remove_sound_told _ _ c.remove-shrunk.result (model_of p) no_cells same c.remove-shrunk.ensures) refl in
+    let sound : is_sound (model_of p) ≡ true = sym whole ∙ sym c.links_sound.ensures ∙ c.if-not-links_sound.false in
+    refuses _ _ _ c.refused-in-Err.ensures
+    (remove_refusal _ _ c.remove-shrunk.result _ no_cells same c.remove-shrunk.ensures sound c.fits-fits.ensures c.in-Err.ensures.answer)
 
-pub returns : goal.returns
+pub returns-in-Ok : goal.returns-in-Ok
 unfolding remove_link_rule
-returns c =
+returns-in-Ok c =
     let p = c.args.panel in
     let l = link_of c.args.address c.args.tag c.args.kind in
     let same : in_range l ≡ true → c.made.result ≡ l = λ fits. c.made.ensures ∙ made_fits _ _ _ fits in
-    let whole = whole_sound p (sym (c.seats_sound.ensures p.table) ∙ c.if-not-seats_sound.false)
-    (remove_sound_told _ _ c.remove-shrunk.result (model_of p) no_cells same c.remove-shrunk.ensures) c.all_named.ensures in
-    let sound : is_sound (model_of p) ≡ true = sym whole ∙ c.if-not-sound.false in
+    let whole = whole_sound p (sym c.seats_sound.ensures ∙ c.if-not-seats_sound.false)
+    (remove_sound_told _ _ c.remove-shrunk.result (model_of p) no_cells same c.remove-shrunk.ensures) refl in
+    let sound : is_sound (model_of p) ≡ true = sym whole ∙ sym c.links_sound.ensures ∙ c.if-not-links_sound.false in
     let zero : refusal ((remove_link_rule l).checks (model_of p) no_cells) ≡ 0 =
-    remove_refusal _ _ c.remove-shrunk.result _ no_cells same c.remove-shrunk.ensures sound c.fits.ensures c.judge_old-answer.ensures ∙ c.if-answer-ne-DONE.false in
+    remove_refusal _ _ c.remove-shrunk.result _ no_cells same c.remove-shrunk.ensures sound c.fits-fits.ensures c.in-Ok.ensures.answer in
     let left = remove_done _ _ c.remove-shrunk.result (model_of p) no_cells same c.remove-shrunk.ensures zero in
-    does _ _ _ zero refl left.0 (table_written p c.remove-shrunk.result.table left.1) refl
+    does _ _ _ c.done.ensures zero refl (ap count_of (sym c.in-Ok.ensures.moved) ∙ left.0) (table_written p c.remove-shrunk.result.state left.1) refl

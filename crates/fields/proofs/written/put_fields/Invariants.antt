@@ -1,10 +1,9 @@
--- What is left of the numbers makes of the sheet what all of them make of it.
+-- The numbers before this one are put.
 -- Assumes nothing.
-use Rattle.std.proofs.Common.{◌≡◌, length, drop}
-use Rattle.texts.specs.Sheet.{sheet, puts}
+use Rattle.std.proofs.Common.{take}
+use Rattle.texts.specs.Lent.{Puts}
 use Rattle.fields.specs.Lines.{fields_text}
 use Rattle.fields.proofs.written.put_fields.Given as goal
 
-abbrev pub invariant-loop-i : goal.invariant-loop-i
-invariant-loop-i l =
-    (l.i-end ≡ length l.numbers) × (puts (fields_text (drop l.i l.numbers)) (sheet l.out l.next) ≡ puts (fields_text l.numbers) (sheet l.fn.out l.at))
+abbrev pub invariant-loop-number : goal.invariant-loop-number
+invariant-loop-number l = Puts (fields_text (take l.number-index l.numbers)) l.fn.sheet l.sheet

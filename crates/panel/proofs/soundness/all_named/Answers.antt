@@ -1,38 +1,38 @@
 -- A turn finds in one word what the test of the whole asks of it; at the end the joined words tell what all of them do.
 -- Assumes nothing.
-use Rattle.std.proofs.Common.{◌≡◌, ℕ, ◌-◌, ◌^◌, ◌<◌, ◌&&◌, take, get_or, bit_or, ltb, refl, sym, ap, ◌∙◌, arith}
-use lib.ListN.{length-take}
-use lib.Seq.{get_or-take}
+use Rattle.std.proofs.Common.{◌≡◌, ℕ, min, length, sym, ◌-◌, ◌^◌, ◌&&◌, List, map, take, get_or, bit_or, ltb, refl, ap, ◌∙◌, arith}
+use Rattle.std.proofs.lemmas.List.{take_min}
 use Rattle.laws.proofs.Every.{every_on, every_over}
 use Rattle.link.specs.Link.{of_word}
-use Rattle.tags.specs.Tags.{places}
+use Rattle.tags.specs.Tags.{places, tags_of}
+use Rattle.panel.specs.Sound.{all_named}
 use Rattle.panel.proofs.Names.{near, even, found_in, found_joined, words_named}
 use Rattle.panel.proofs.soundness.all_named.Goals as goal
 
-pub loop-i-init : goal.loop-i-init
-unfolding of_word
-loop-i-init c = refl
+-- a count that is cut to the places that there are takes the same words
+capped : (count : ℕ) (words : List ℕ) {end : ℕ} → length words ≡ 512 → end ≡ min count 512 → take end words ≡ take count words
+capped count words long e = ap (λ (n : ℕ). take n words) (e ∙ ap (λ (n : ℕ). min count n) (sym long)) ∙ take_min count words
 
-pub loop-i-preserved : goal.loop-i-preserved
-loop-i-preserved c =
-    let words = c.args.words.now in
-    let count = c.args.count in
+pub loop-word-init : goal.loop-word-init
+unfolding of_word
+loop-word-init c = refl
+
+pub loop-word-preserved : goal.loop-word-preserved
+loop-word-preserved c =
+    let words = take c.min.result c.args.table.now.words in
     let free = 2 ^ 64 - 1 - c.args.present.word in
-    let i = c.loop-i.i in
-    let here : i < count = omega (arith, c.loop-i-test.true, c.smaller-end.ensures) in
-    let same : get_or (take count words) i 0 ≡ get_or words i 0 = get_or-take count words i 0 here in
-    every_on (found_in free) (take count words) 0 i (near c.loop-i.joined && even c.loop-i.missing)
-    (near (bit_or c.loop-i.joined (get_or words i 0)) && even (bit_or c.loop-i.missing c.from_tag-missing.result))
-    (omega (arith, length-take count words, c.loop-i-test.true, c.smaller-end.ensures))
-    (found_joined free (get_or words i 0) c.loop-i.joined c.loop-i.missing c.from_tag-missing.ensures
-    ∙ ap (λ (w : ℕ). (near c.loop-i.joined && even c.loop-i.missing) && found_in free w) (sym same)) c.loop-i.invariant
+    let word = get_or words c.loop-word.word-index 0 in
+    every_on (found_in free) words 0 c.loop-word.word-index (near c.loop-word.joined && even c.loop-word.missing)
+    (near (bit_or c.loop-word.joined word) && even (bit_or c.loop-word.missing c.from_tag-missing.result))
+    c.loop-word-test.true
+    (found_joined free word c.loop-word.joined c.loop-word.missing c.from_tag-missing.ensures) c.loop-word.invariant
 
 pub returns : goal.returns
 returns c =
-    let words = c.args.words.now in
-    let count = c.args.count in
+    let words = take c.min.result c.args.table.now.words in
     let free = 2 ^ 64 - 1 - c.args.present.word in
-    ap (λ (t : ℕ). ltb t places && even c.loop-i.missing) c.tag_in.ensures
-    ∙ every_over (found_in free) (take count words) 0 c.loop-i.i (near c.loop-i.joined && even c.loop-i.missing)
-    (omega (arith, length-take count words, c.loop-i-test.false, c.smaller-end.ensures)) c.loop-i.invariant
-    ∙ words_named c.args.present.word (omega arith) (take count words)
+    ap (λ (t : ℕ). ltb t places && even c.loop-word.missing) c.tag_in.ensures
+    ∙ every_over (found_in free) words 0 c.loop-word.word-index (near c.loop-word.joined && even c.loop-word.missing) c.loop-word-test.false c.loop-word.invariant
+    ∙ words_named c.args.present.word (omega arith) words
+    ∙ ap (λ (xs : List ℕ). all_named (tags_of c.args.present) (map of_word xs))
+    (capped c.args.table.now.count c.args.table.now.words (omega arith) c.min.ensures)

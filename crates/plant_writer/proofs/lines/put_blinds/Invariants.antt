@@ -1,10 +1,10 @@
--- After each turn the lines of the tags up to this one are written.
+-- The lines of the tags before this one are put.
 -- Assumes nothing.
-use Rattle.std.proofs.Common.{◌≡◌, ◌≤◌}
 use Rattle.panel.specs.Panel.{model_of}
-use Rattle.texts.specs.Sheet.{sheet, puts, each}
-use Rattle.plant_writer.proofs.LinesText.{seat_text}
+use Rattle.texts.specs.Lent.{Puts}
+use Rattle.plant.specs.Written.{blind_lines}
+use Rattle.plant_writer.specs.Writer.{lines_text}
 use Rattle.plant_writer.proofs.lines.put_blinds.Given as goal
 
 abbrev pub invariant-loop-tag : goal.invariant-loop-tag
-invariant-loop-tag l = (l.tag ≤ 64) × (sheet l.out l.next ≡ puts (each (seat_text (model_of l.panel)) l.tag) (sheet l.fn.out l.at))
+invariant-loop-tag l = Puts (lines_text (blind_lines l.tag (model_of l.panel))) l.fn.sheet l.sheet

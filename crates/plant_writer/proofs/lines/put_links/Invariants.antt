@@ -1,16 +1,11 @@
--- After each turn the lines of the links up to this place are written; as many are held as the count says, and no more than there
--- are places.
+-- The lines of the links before this place are put.
 -- Assumes nothing.
-use Rattle.std.proofs.Common.{◌≡◌, ◌≤◌, ◌-◌, min}
-use Rattle.table.specs.Links.{held_of}
-use Rattle.texts.specs.Sheet.{sheet, puts, each}
-use Rattle.plant_writer.proofs.LinesText.{place_text}
+use Rattle.std.proofs.Common.{map, take}
+use Rattle.link.specs.Link.{of_word}
+use Rattle.texts.specs.Lent.{Puts}
+use Rattle.plant.specs.Written.{link_line}
+use Rattle.plant_writer.specs.Writer.{lines_text}
 use Rattle.plant_writer.proofs.lines.put_links.Given as goal
 
-abbrev pub invariant-loop-i : goal.invariant-loop-i
-invariant-loop-i l =
-    (l.i ≤ l.count)
-    × ((l.count ≡ min l.table.count 512) × (sheet l.out l.next ≡ puts (each (place_text (held_of l.table).links) l.i) (sheet l.fn.out l.at)))
-
-abbrev pub decreases-loop-i : goal.decreases-loop-i
-decreases-loop-i l = l.count - l.i
+abbrev pub invariant-loop-word : goal.invariant-loop-word
+invariant-loop-word l = Puts (lines_text (map link_line (map of_word (take l.word-index l.words)))) l.fn.sheet l.sheet
