@@ -14,7 +14,8 @@ pub const TERMINALS: u64 = 128;
 // The cells that a strip reading fills, one for each terminal.
 pub const STRIP: usize = TERMINALS as usize;
 
-// One word of 128 was measured: every call looks at up to 64 terminals, and that took a third longer.
+// Not one word of 128: every call looks at up to 64 terminals, and a model of that in C, by the same compiler, took a third
+// longer with one.
 #[derive(Clone, Copy)]
 pub struct Strip {
     low: Tags,
