@@ -1,6 +1,6 @@
 -- Soundness and the numbers first; then where the two searches end tells whether the address has a link, and its first link the class.
 -- Assumes nothing.
-use Rattle.std.proofs.Common.{◌≡◌, ℕ, Bool, ◌-◌, true, false, sym, ◌∙◌, arith}
+use Rattle.std.proofs.Common.{◌≡◌, ℕ, Bool, true, false, sym, ◌∙◌, arith}
 use Rattle.answers.specs.Answers.{refusal}
 use Rattle.panel.specs.declared.Panel.{Panel}
 use Rattle.table.specs.Links.{held_of}
@@ -11,7 +11,7 @@ use Rattle.panel.specs.Sound.{is_sound}
 use Rattle.panel.specs.Calls.{checks}
 use Rattle.panel.proofs.Decides.{table_sound}
 use Rattle.panel.proofs.Checks.{not_sound, outside_range, own_checks}
-use Rattle.telegrams.specs.Telegrams.{is_outside, link_checks, Together}
+use Rattle.telegrams.specs.Telegrams.{is_outside, link_checks}
 use Rattle.telegrams.proofs.Ranges.{inside}
 use Rattle.telegrams.proofs.Reached.{starts_low, together, first_held, no_link, not_of_class, of_class}
 use Rattle.telegrams.proofs.judge.Goals as goal
@@ -51,50 +51,40 @@ pub returns-then-count-eq0-clause-answer : goal.returns-then-count-eq0-clause-an
 returns-then-count-eq0-clause-answer c =
     let p = c.args.panel.now in
     let sound : is_sound (model_of p) ≡ true = sym c.is_sound.ensures ∙ c.if-not-is_sound.false in
-    let room = c.requires in
-    let span : Together c.args.address (held_of p.table).links c.below-start.result (c.below-end.result - c.below-start.result) =
-    together p.table c.args.address (table_sound (model_of p) sound) room c.below-start.ensures c.below-end.ensures in
+    let span = together p.table c.args.address (table_sound (model_of p) sound) c.requires c.below-start.ensures c.below-end.ensures in
     decided p c.args.address c.args.value 5 sound (sym c.is_outside.ensures ∙ c.if-is_outside.false)
-    (no_link p.table c.args.address (table_sound (model_of p) sound) room span.from span.counted c.args.value c.if-count-eq0.true)
+    (no_link p.table c.args.address (table_sound (model_of p) sound) c.requires span.from span.counted c.args.value c.if-count-eq0.true)
 
 -- the first link of the address is in the table
 pub offset_bounds-panel-start : goal.offset_bounds-panel-start
 offset_bounds-panel-start c =
     let p = c.args.panel.now in
     let sound : is_sound (model_of p) ≡ true = sym c.is_sound.ensures ∙ c.if-not-is_sound.false in
-    let room = c.requires in
-    let span : Together c.args.address (held_of p.table).links c.below-start.result (c.below-end.result - c.below-start.result) =
-    together p.table c.args.address (table_sound (model_of p) sound) room c.below-start.ensures c.below-end.ensures in
-    omega (arith, first_held p.table c.args.address (table_sound (model_of p) sound) room span.from span.counted c.if-count-eq0.false, few p.table (table_sound (model_of p) sound))
+    let span = together p.table c.args.address (table_sound (model_of p) sound) c.requires c.below-start.ensures c.below-end.ensures in
+    omega (arith, first_held p.table c.args.address (table_sound (model_of p) sound) c.requires span.from span.counted c.if-count-eq0.false, few p.table (table_sound (model_of p) sound))
 
 pub bounds-panel-start : goal.bounds-panel-start
 bounds-panel-start c =
     let p = c.args.panel.now in
     let sound : is_sound (model_of p) ≡ true = sym c.is_sound.ensures ∙ c.if-not-is_sound.false in
-    let room = c.requires in
-    let span : Together c.args.address (held_of p.table).links c.below-start.result (c.below-end.result - c.below-start.result) =
-    together p.table c.args.address (table_sound (model_of p) sound) room c.below-start.ensures c.below-end.ensures in
-    omega (arith, first_held p.table c.args.address (table_sound (model_of p) sound) room span.from span.counted c.if-count-eq0.false, few p.table (table_sound (model_of p) sound))
+    let span = together p.table c.args.address (table_sound (model_of p) sound) c.requires c.below-start.ensures c.below-end.ensures in
+    omega (arith, first_held p.table c.args.address (table_sound (model_of p) sound) c.requires span.from span.counted c.if-count-eq0.false, few p.table (table_sound (model_of p) sound))
 
 pub returns-then-class-value-clause-answer : goal.returns-then-class-value-clause-answer
 returns-then-class-value-clause-answer c =
     let p = c.args.panel.now in
     let sound : is_sound (model_of p) ≡ true = sym c.is_sound.ensures ∙ c.if-not-is_sound.false in
-    let room = c.requires in
-    let span : Together c.args.address (held_of p.table).links c.below-start.result (c.below-end.result - c.below-start.result) =
-    together p.table c.args.address (table_sound (model_of p) sound) room c.below-start.ensures c.below-end.ensures in
+    let span = together p.table c.args.address (table_sound (model_of p) sound) c.requires c.below-start.ensures c.below-end.ensures in
     decided p c.args.address c.args.value 6 sound (sym c.is_outside.ensures ∙ c.if-is_outside.false)
-    (not_of_class p.table c.args.address (table_sound (model_of p) sound) room span.from span.counted c.if-count-eq0.false c.args.value c.class.ensures c.if-class-value.true)
+    (not_of_class p.table c.args.address (table_sound (model_of p) sound) c.requires span.from span.counted c.if-count-eq0.false c.args.value c.class.ensures c.if-class-value.true)
 
 pub returns-clause-answer : goal.returns-clause-answer
 returns-clause-answer c =
     let p = c.args.panel.now in
     let sound : is_sound (model_of p) ≡ true = sym c.is_sound.ensures ∙ c.if-not-is_sound.false in
-    let room = c.requires in
-    let span : Together c.args.address (held_of p.table).links c.below-start.result (c.below-end.result - c.below-start.result) =
-    together p.table c.args.address (table_sound (model_of p) sound) room c.below-start.ensures c.below-end.ensures in
+    let span = together p.table c.args.address (table_sound (model_of p) sound) c.requires c.below-start.ensures c.below-end.ensures in
     decided p c.args.address c.args.value 0 sound (sym c.is_outside.ensures ∙ c.if-is_outside.false)
-    (of_class p.table c.args.address (table_sound (model_of p) sound) room span.from span.counted c.if-count-eq0.false c.args.value c.class.ensures c.if-class-value.false)
+    (of_class p.table c.args.address (table_sound (model_of p) sound) c.requires span.from span.counted c.if-count-eq0.false c.args.value c.class.ensures c.if-class-value.false)
 
 pub returns-clause-reach : goal.returns-clause-reach
 returns-clause-reach c =

@@ -81,58 +81,49 @@ returns-in-Err c =
 
 pub overflow_cast-byte : goal.overflow_cast-byte
 overflow_cast-byte c =
-    let k : Known c.args.address c.args.value c.args.panel c.in-Ok.reach.start c.in-Ok.reach.count =
-    known c.args.address c.args.value c.args.panel (search rules) (search rules) c.in-Ok.ensures.answer c.in-Ok.ensures.reach in
+    let k = known c.args.address c.args.value c.args.panel (search rules) (search rules) c.in-Ok.ensures.answer c.in-Ok.ensures.reach in
     omega (arith, k.telegram.byte)
 
 pub loop-turn-init : goal.loop-turn-init
 loop-turn-init c =
-    let k : Known c.args.address c.args.value c.args.panel c.in-Ok.reach.start c.in-Ok.reach.count =
-    known c.args.address c.args.value c.args.panel (search rules) (search rules) c.in-Ok.ensures.answer c.in-Ok.ensures.reach in
+    let k = known c.args.address c.args.value c.args.panel (search rules) (search rules) c.in-Ok.ensures.answer c.in-Ok.ensures.reach in
     deliver_start _ _ _ _ (search (long, rules)) k.sound (c.fill.ensures.after (λ y e. e) ∙ ap (λ (n : ℕ). replicate n no_report) c.if-cells-ne-CELLS.false ∙ all_alike places no_report)
 
 pub place-requires-clause-count_bound : goal.place-requires-clause-count_bound
 place-requires-clause-count_bound c =
-    let k : Known c.args.address c.args.value c.args.panel c.in-Ok.reach.start c.in-Ok.reach.count =
-    known c.args.address c.args.value c.args.panel (search rules) (search rules) c.in-Ok.ensures.answer c.in-Ok.ensures.reach in
+    let k = known c.args.address c.args.value c.args.panel (search rules) (search rules) c.in-Ok.ensures.answer c.in-Ok.ensures.reach in
     k.short
 
 pub link_at-link-requires : goal.link_at-link-requires
 link_at-link-requires c =
-    let k : Known c.args.address c.args.value c.args.panel c.in-Ok.reach.start c.in-Ok.reach.count =
-    known c.args.address c.args.value c.args.panel (search rules) (search rules) c.in-Ok.ensures.answer c.in-Ok.ensures.reach in
+    let k = known c.args.address c.args.value c.args.panel (search rules) (search rules) c.in-Ok.ensures.answer c.in-Ok.ensures.reach in
     omega (arith, k.short, words_kept k c.loop-turn.invariant)
 
 pub bounds-before-tag : goal.bounds-before-tag
 bounds-before-tag c =
-    let k : Known c.args.address c.args.value c.args.panel c.in-Ok.reach.start c.in-Ok.reach.count =
-    known c.args.address c.args.value c.args.panel (search rules) (search rules) c.in-Ok.ensures.answer c.in-Ok.ensures.reach in
+    let k = known c.args.address c.args.value c.args.panel (search rules) (search rules) c.in-Ok.ensures.answer c.in-Ok.ensures.reach in
     low k c.loop-turn.invariant c.place.result c.link_at-link.result c.loop-turn-test.true c.place.ensures c.link_at-link.ensures
 
 pub bounds-panel-tag : goal.bounds-panel-tag
 bounds-panel-tag c =
-    let k : Known c.args.address c.args.value c.args.panel c.in-Ok.reach.start c.in-Ok.reach.count =
-    known c.args.address c.args.value c.args.panel (search rules) (search rules) c.in-Ok.ensures.answer c.in-Ok.ensures.reach in
+    let k = known c.args.address c.args.value c.args.panel (search rules) (search rules) c.in-Ok.ensures.answer c.in-Ok.ensures.reach in
     low k c.loop-turn.invariant c.place.result c.link_at-link.result c.loop-turn-test.true c.place.ensures c.link_at-link.ensures
 
 pub bounds-panel-tag-in-loop-turn : goal.bounds-panel-tag-in-loop-turn
 bounds-panel-tag-in-loop-turn c =
-    let k : Known c.args.address c.args.value c.args.panel c.in-Ok.reach.start c.in-Ok.reach.count =
-    known c.args.address c.args.value c.args.panel (search rules) (search rules) c.in-Ok.ensures.answer c.in-Ok.ensures.reach in
+    let k = known c.args.address c.args.value c.args.panel (search rules) (search rules) c.in-Ok.ensures.answer c.in-Ok.ensures.reach in
     low k c.loop-turn.invariant c.place.result c.link_at-link.result c.loop-turn-test.true c.place.ensures c.link_at-link.ensures
 
 pub loop-turn-preserved : goal.loop-turn-preserved
 loop-turn-preserved c =
-    let k : Known c.args.address c.args.value c.args.panel c.in-Ok.reach.start c.in-Ok.reach.count =
-    known c.args.address c.args.value c.args.panel (search rules) (search rules) c.in-Ok.ensures.answer c.in-Ok.ensures.reach in
+    let k = known c.args.address c.args.value c.args.panel (search rules) (search rules) c.in-Ok.ensures.answer c.in-Ok.ensures.reach in
     let link = c.link_at-link.result in
     deliver_turn c.args.value c.args.panel _ _ k.sound k.room k.fits c.place.result (omega (arith, c.place.ensures, c.loop-turn-test.true)) link (read k c.loop-turn.invariant c.place.result link c.link_at-link.ensures)
     c.loop-turn.turn c.loop-turn-test.true c.place.ensures c.loop-turn.invariant k.telegram.byte c.hear-new.result c.hear-new.ensures c.report.ensures
 
 pub overflow_cast-cells : goal.overflow_cast-cells
 overflow_cast-cells c =
-    let k : Known c.args.address c.args.value c.args.panel c.in-Ok.reach.start c.in-Ok.reach.count =
-    known c.args.address c.args.value c.args.panel (search rules) (search rules) c.in-Ok.ensures.answer c.in-Ok.ensures.reach in
+    let k = known c.args.address c.args.value c.args.panel (search rules) (search rules) c.in-Ok.ensures.answer c.in-Ok.ensures.reach in
     let link = c.link_at-link.result in
     omega (
       arith,
@@ -142,16 +133,14 @@ overflow_cast-cells c =
 
 pub bounds-cells-tag : goal.bounds-cells-tag
 bounds-cells-tag c =
-    let k : Known c.args.address c.args.value c.args.panel c.in-Ok.reach.start c.in-Ok.reach.count =
-    known c.args.address c.args.value c.args.panel (search rules) (search rules) c.in-Ok.ensures.answer c.in-Ok.ensures.reach in
+    let k = known c.args.address c.args.value c.args.panel (search rules) (search rules) c.in-Ok.ensures.answer c.in-Ok.ensures.reach in
     omega (arith, low k c.loop-turn.invariant c.place.result c.link_at-link.result c.loop-turn-test.true c.place.ensures c.link_at-link.ensures, deliver_lent _ _ _ _ c.loop-turn.invariant)
 
 pub returns : goal.returns
 unfolding telegram_rule
 returns c =
     let p = c.args.panel in
-    let k : Known c.args.address c.args.value p c.in-Ok.reach.start c.in-Ok.reach.count =
-    known c.args.address c.args.value p (search rules) (search rules) c.in-Ok.ensures.answer c.in-Ok.ensures.reach in
+    let k = known c.args.address c.args.value p (search rules) (search rules) c.in-Ok.ensures.answer c.in-Ok.ensures.reach in
     let over = deliver_end c.args.value p _ _ c.loop-turn.invariant c.loop-turn-test.false in
     let left = span_delivered c.args.address c.args.value p (table_sound (model_of p) k.whole) k.room k.span.from k.span.counted over.0 in
     does _ _ _ c.done.ensures
