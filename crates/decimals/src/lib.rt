@@ -3,22 +3,32 @@
 #![tactic(auto)]
 
 ghost use Rattle.std.specs.Prelude.{◌%◌, ◌≡◌, [], ◌∷◌};
+ghost use Rattle.texts.specs.Sheet.{sheet, puts};
 ghost use Rattle.texts.specs.Lent.{Puts};
 ghost use Rattle.decimals.specs.Decimals.{sign, decimal, number_after, number_of, plain_of};
 
-use texts::Sheet;
+use texts::{Sheet, put};
 
 const BASE: u64 = 10;
 
-// A number more on the sheet: what stands before its last digit, and then that digit.
-#[tactic(auto, using(crate::proofs::Digits::put_one, crate::proofs::Digits::put_more))]
+// A number more on the sheet.
 pub fn put_number(sheet: &mut Sheet<'_>, n: u64)
     ensures { Puts (decimal n) sheet.old sheet.new }
 {
-    if n >= BASE {
-        put_number(sheet, n / BASE);
+    sheet.at = put_digits(sheet.bytes, sheet.at, n);
+}
+
+// What stands before the last digit, and then that digit. By the row and the place: through a sheet each digit waits for the
+// place that the one before stored, and a plant file took twice as long.
+#[tactic(auto, using(crate::proofs::Digits::put_one, crate::proofs::Digits::put_more), unfolding(texts::specs::Sheet::puts))]
+fn put_digits(row: &mut [u8], at: usize, n: u64) -> usize
+    ensures { sheet row.new result ≡ puts (decimal n) (sheet row.old at) }
+{
+    if n < BASE {
+        return put(row, at, last_sign(n));
     }
-    sheet.put(last_sign(n));
+    let next = put_digits(row, at, n / BASE);
+    put(row, next, last_sign(n))
 }
 
 fn last_sign(n: u64) -> u8

@@ -2,7 +2,8 @@
 // out, so nobody has to make room beforehand. These are functions and not std's Display, which promises its text on Ok alone.
 #![tactic(auto)]
 
-ghost use Rattle.std.specs.Prelude.{[], ◌∷◌};
+ghost use Rattle.std.specs.Prelude.{◌≡◌, [], ◌∷◌};
+ghost use Rattle.texts.specs.Sheet.{sheet, put as ofSheet·put};
 ghost use Rattle.texts.specs.Lent.{Puts};
 
 #[derive(Drop)]
@@ -17,10 +18,7 @@ impl Sheet<'_> {
     pub fn put(&mut self, byte: u8)
         ensures { Puts (byte ∷ []) self.old self.new }
     {
-        if self.at < self.bytes.len() {
-            self.bytes[self.at] = byte;
-            self.at += 1;
-        }
+        self.at = put(self.bytes, self.at, byte);
     }
 
     // A text more.
@@ -32,4 +30,16 @@ impl Sheet<'_> {
             self.put(byte);
         }
     }
+}
+
+// One byte more on a row that is filled up to this place, and the place after it.
+#[tactic(auto, unfolding(crate::specs::Sheet::put))]
+pub fn put(row: &mut [u8], at: usize, byte: u8) -> usize
+    ensures { sheet row.new result ≡ ofSheet·put byte (sheet row.old at) }
+{
+    if at < row.len() {
+        row[at] = byte;
+        return at + 1;
+    }
+    at
 }

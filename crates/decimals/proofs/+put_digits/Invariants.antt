@@ -1,0 +1,6 @@
+-- The number falls.
+-- Assumes nothing.
+use Rattle.decimals.proofs.+put_digits.Given as goal
+
+abbrev pub decreases-put_digits : goal.decreases-put_digits
+decreases-put_digits l = l.n

@@ -1,6 +1,0 @@
--- The number falls.
--- Assumes nothing.
-use Rattle.decimals.proofs.+put_number.Given as goal
-
-abbrev pub decreases-put_number : goal.decreases-put_number
-decreases-put_number l = l.n
