@@ -8,7 +8,7 @@ ghost use Rattle.desk.specs.Desk.{file_text};
 use answers::Refusal;
 use fields::ROOM;
 use file_word::put_packed;
-use shows::numbers::put_counted;
+use shows::numbers::put_outcome;
 use texts::Sheet;
 
 // The buffer, in a function of its own so that a proof of its caller need not look at each byte.
@@ -30,7 +30,7 @@ pub(crate) fn lent_of(asked: u64) -> usize
 pub(crate) fn put_file(sheet: &mut Sheet<'_>, written: Result<usize, Refusal>, lent: &[u8])
     ensures { Puts (file_text (answer_of written) (count_of written) lent.now) sheet.old sheet.new }
 {
-    put_counted(sheet, written.map(|length| length as u64));
+    put_outcome(sheet, written.map(|length| length as u64));
     sheet.put(b' ');
     match written {
         Ok(length) => put_packed(sheet, &lent[..length.min(lent.len())]),

@@ -27,8 +27,8 @@ use readings::inventory::{Counted, inventory};
 use readings::strips::strip;
 use reason_text::put_reason;
 use removals::remove_blind;
-use shows::cells::put_with_cells;
-use shows::numbers::{put_counted, put_spaced};
+use shows::cells::put_outcome_with_cells;
+use shows::numbers::{put_outcome, put_spaced};
 use splices::{splice_in, splice_out};
 use tags::CELLS;
 use telegrams::telegram;
@@ -86,7 +86,7 @@ fn apply(panel: Panel, edit: Edit) -> Answered<Panel>
 fn tell(done: Answered<Panel>, sheet: &mut Sheet<'_>) -> Panel
     ensures { Leaves (edited (handed done no_cells) (on sheet.old)) result sheet.old sheet.new }
 {
-    put_counted(sheet, done.outcome);
+    put_outcome(sheet, done.outcome);
     done.state
 }
 
@@ -105,11 +105,11 @@ fn put_inventory(sheet: &mut Sheet<'_>, stock: Result<Counted, Refusal>)
 {
     match stock {
         Ok(counted) => {
-            put_counted(sheet, Ok(u64::from(counted.blinds)));
+            put_outcome(sheet, Ok(u64::from(counted.blinds)));
             put_spaced(sheet, u64::from(counted.lowest));
         }
         Err(refusal) => {
-            put_counted(sheet, Err(refusal));
+            put_outcome(sheet, Err(refusal));
             put_spaced(sheet, 0);
         }
     }
@@ -152,7 +152,7 @@ fn tell_percent(panel: Panel, raw: u64, sheet: &mut Sheet<'_>) -> Panel
         Ok(byte) => Ok(u64::from(percent(byte))),
         Err(_) => Err(Refusal::OutOfRange),
     };
-    put_counted(sheet, shown);
+    put_outcome(sheet, shown);
     panel
 }
 
@@ -172,6 +172,6 @@ fn tell_file(panel: Panel, asked: u64, sheet: &mut Sheet<'_>) -> Panel
 fn tell_cells(done: Answered<Panel>, idle: u16, cells: &[u16], sheet: &mut Sheet<'_>) -> Panel
     ensures { Leaves (celled idle (handed done (row cells.now)) (on sheet.old)) result sheet.old sheet.new }
 {
-    put_with_cells(sheet, done.outcome, idle, cells);
+    put_outcome_with_cells(sheet, done.outcome, idle, cells);
     done.state
 }

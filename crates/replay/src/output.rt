@@ -1,5 +1,5 @@
 // Answers on their way out. Whoever reads them gets whole lines, also where the output takes no more.
-use intake::fetch;
+use intake::fetch_all;
 use std::fs::{OpenFile, OpenOptions};
 use std::io::{Eprint, Print};
 use std::rt::Files;
@@ -66,17 +66,11 @@ fn take_back<R: Files>(rt: &R, taken: u64) -> io::Result<()> {
     file.set_len(here - taken)
 }
 
-// Where in its file standard output stands. What was told before a read failed counts, so this is no `fetch_all`.
+// Where in its file standard output stands. What was told before a read failed counts too.
 fn place<R: Files>(rt: &R) -> io::Result<Option<u64>> {
     let mut bytes = [0u8; PLACE_LINE];
     let mut told = fs::open(rt, TOLD)?;
-    let mut have = 0;
-    while let Ok(next) = fetch(&mut told, &mut bytes, have) {
-        if next <= have {
-            break;
-        }
-        have = next;
-    }
+    let have = fetch_all(&mut told, &mut bytes).unwrap_or_else(|failed| failed.have);
     Ok(place_in(&bytes[..have]))
 }
 

@@ -4,13 +4,26 @@ ghost use Rattle.answers.specs.Numbers.{answer_of, count_of};
 ghost use Rattle.shows.specs.Cells.{cell_text, cells_text, counted_with};
 
 use crate::numbers::{put_counted, put_spaced};
-use answers::Refusal;
+use answers::{Refusal, number};
 use decimals::put_number;
 use texts::Sheet;
 
 // The answer of a call that was lent cells. A cell that holds the idle value says nothing.
 #[tactic(auto, using(texts::proofs::Sheets::pieces), unfolding(crate::specs::Cells::counted_with, texts::specs::Text::text, laws::specs::Fills::tabulate))]
-pub fn put_with_cells(
+pub fn put_with_cells(sheet: &mut Sheet<'_>, number: u8, count: u64, idle: u16, cells: &[u16])
+    ensures { Puts (counted_with idle number count cells.now) sheet.old sheet.new }
+{
+    put_counted(sheet, number, count);
+    // 0: the call is done.
+    if number == 0 {
+        put_cells(sheet, idle, cells);
+    } else {
+        sheet.put_text(b" -");
+    }
+}
+
+// The same of an outcome.
+pub fn put_outcome_with_cells(
     sheet: &mut Sheet<'_>,
     outcome: Result<u64, Refusal>,
     idle: u16,
@@ -18,11 +31,7 @@ pub fn put_with_cells(
 )
     ensures { Puts (counted_with idle (answer_of outcome) (count_of outcome) cells.now) sheet.old sheet.new }
 {
-    put_counted(sheet, outcome);
-    match outcome {
-        Ok(_) => put_cells(sheet, idle, cells),
-        Err(_) => sheet.put_text(b" -"),
-    }
+    put_with_cells(sheet, number(outcome), outcome.unwrap_or(0), idle, cells);
 }
 
 #[tactic(auto, using(texts::proofs::Sheets::each_none, texts::proofs::Sheets::each_more), unfolding(crate::specs::Cells::cells_text))]

@@ -17,9 +17,16 @@ pub fn put_spaced(sheet: &mut Sheet<'_>, n: u64)
 }
 
 #[tactic(auto, using(texts::proofs::Sheets::pieces), unfolding(crate::specs::Numbers::counted))]
-pub fn put_counted(sheet: &mut Sheet<'_>, outcome: Result<u64, Refusal>)
+pub fn put_counted(sheet: &mut Sheet<'_>, number: u8, count: u64)
+    ensures { Puts (counted number count) sheet.old sheet.new }
+{
+    put_number(sheet, u64::from(number));
+    put_spaced(sheet, count);
+}
+
+// The numbers of an outcome.
+pub fn put_outcome(sheet: &mut Sheet<'_>, outcome: Result<u64, Refusal>)
     ensures { Puts (counted (answer_of outcome) (count_of outcome)) sheet.old sheet.new }
 {
-    put_number(sheet, u64::from(number(outcome)));
-    put_spaced(sheet, outcome.unwrap_or(0));
+    put_counted(sheet, number(outcome), outcome.unwrap_or(0));
 }
