@@ -54,16 +54,15 @@ fn judge(panel: &Panel, tag: u64, terminal: u64, asked: Asked) -> Result<(), Ref
     Ok(())
 }
 
-#[tactic(auto, unfolding(seats::specs::Seats::in_use), using(seats::proofs::Walk::rest_all, seats::proofs::Walk::rest_more, seats::proofs::Walk::rest_none, seats::proofs::Walk::rest_hit, seats::proofs::Walk::met_end))]
+#[tactic(auto, unfolding(seats::specs::Seats::in_use), using(seats::proofs::Walk::rest_all))]
 fn is_used(panel: &Panel, terminal: u64) -> bool
     requires { terminal < terminals }
     ensures { result ≡ in_use terminal (terminal + 1) (model_of panel.now) }
 {
     for tag in 0..CELLS {
-        if let Some(seat) = panel.seat(tag) {
-            if seats::stands_within(seat, terminal, terminal + 1) {
-                return true;
-            }
+        let seat = panel.seat(tag);
+        if seats::stands_within(seat, terminal, terminal + 1) {
+            return true;
         }
     }
     false

@@ -1,18 +1,19 @@
 -- One pass over the tags of a panel finds whether a seat passes a test: what was found up to a tag, or else what is left of
 -- the tags, decides as all of them do, and an absent tag is passed over. Assumes nothing.
 use Prim.Native.Nat.{ℕ, ◌+◌, ◌≤◌, ◌<◌}
-use mathlib.Core.Path.{◌≡◌, refl, sym, ap, ◌∙◌, subst}
-use mathlib.Core.Bool.{Bool, true, false, ◌&&◌, ◌||◌}
+use mathlib.Core.Path.{◌≡◌, refl, sym, ap, ◌∙◌}
+use mathlib.Core.Bool.{Bool, true, false, cond, ◌&&◌, ◌||◌}
 use Rattle.laws.specs.Any.{any}
 use Rattle.laws.proofs.Any.{left, hits, any_more, any_hit, any_end}
 use Rattle.tags.specs.Tags.{places, tags_of}
 use Rattle.panel.specs.declared.Panel.{Panel}
 use Rattle.panel.specs.declared.Seat.{Seat}
-use Rattle.panel.specs.Panel.{place_of, seats_of, seat_at, model_of}
+use Rattle.panel.specs.Panel.{place_of, seats_of, seat_at, found, model_of}
+use Rattle.std.specs.Prelude as prelude
 use Rattle.std.specs.Prelude.{Some, None}
 use Rattle.panel.specs.Sound.{seats_in}
-use Rattle.panel.proofs.Seats.{seat_present, seat_absent, seat_found, seat_given}
-use Rattle.seats.specs.Seats.{some_seat}
+use Rattle.panel.proofs.Seats.{seat_present, seat_absent}
+use Rattle.seats.specs.Seats.{some_seat, there_and}
 
 module _ (test : Seat → Bool) (p : Panel) where
   -- what was found before a tag, and what the seats from there on decide
@@ -35,29 +36,23 @@ module _ (test : Seat → Bool) (p : Panel) where
         go true e = ap (hits test) (sym (seat_present p tag e))
         go false e = ap (hits test) (sym (seat_absent p tag e))
 
+    -- what is asked of the seat that a program is told of is asked of the tag
+    pub asked : {told : prelude.Option Seat} {hit : Bool} → told ≡ seat_at p tag → hit ≡ there_and test (found told)
+        → hit ≡ tags_of p.present tag && test (place_of p tag)
+    asked e said = said ∙ ap (λ (o : prelude.Option Seat). there_and test (found o)) e ∙ go (tags_of p.present tag)
+      where
+        go : (b : Bool) → there_and test (found (cond b (Some (place_of p tag)) None)) ≡ b && test (place_of p tag)
+        go true = refl
+        go false = refl
+
     -- one tag more
-    met_more : (found : Bool) {hit : Bool} → tag < places → hit ≡ tags_of p.present tag && test (place_of p tag) → Met found tag → Met (found || hit) (tag + 1)
+    pub met_more : (found : Bool) {hit : Bool} → tag < places → hit ≡ tags_of p.present tag && test (place_of p tag) → Met found tag → Met (found || hit) (tag + 1)
     met_more found {hit} h e met = go found hit (sym tested ∙ sym e) met
       where
         go : (f b : Bool) → hits test (seats_of p tag) ≡ b → Met f tag → Met (f || b) (tag + 1)
         go true b s met = met
         go false true s met = sym (any_hit test places (seats_of p) tag h s met)
         go false false s met = any_more test places (seats_of p) tag h s met
-
-    -- the next seat, or a tag without one
-    pub met_seat : (found : Bool) {seat : Seat} {hit next : Bool} → tag < places → Some seat ≡ seat_at p tag → hit ≡ test seat → next ≡ found || hit
-        → Met found tag → Met next (tag + 1)
-    met_seat found {seat} {hit} h e tested so met =
-        let given = seat_given p tag e in
-        subst (λ (b : Bool). Met b (tag + 1)) (sym so)
-        (met_more found h (tested ∙ ap test given.1 ∙ ap (λ (b : Bool). b && test (place_of p tag)) (sym given.0)) met)
-
-    pub met_none : (found : Bool) {next : Bool} → tag < places → None ≡ seat_at p tag → next ≡ found → Met found tag → Met next (tag + 1)
-    met_none found h e so met = subst (λ (b : Bool). Met b (tag + 1)) (sym so) (go found met)
-      where
-        go : (f : Bool) → Met f tag → Met f (tag + 1)
-        go true met = met
-        go false met = any_more test places (seats_of p) tag h (ap (hits test) (sym (seat_found p tag e))) met
 
     -- no tag is left
     pub met_end : (found : Bool) → places ≤ tag → Met found tag → found ≡ some_seat test (model_of p)
@@ -68,13 +63,9 @@ module _ (test : Seat → Bool) (p : Panel) where
         go false met = sym (any_end test places (seats_of p) tag h met)
 
     -- the tag has no seat that passes
-    pub rest_more : {seat : Seat} → tag < places → Some seat ≡ seat_at p tag → test seat ≡ false → Rest tag → Rest (tag + 1)
-    rest_more {seat} h e miss = any_more test places (seats_of p) tag h (ap (hits test) (sym (seat_found p tag e)) ∙ miss)
-
-    -- the tag has no seat
-    pub rest_none : tag < places → None ≡ seat_at p tag → Rest tag → Rest (tag + 1)
-    rest_none h e = met_none false h e refl
+    pub rest_more : {hit : Bool} → tag < places → hit ≡ tags_of p.present tag && test (place_of p tag) → hit ≡ false → Rest tag → Rest (tag + 1)
+    rest_more {hit} h e miss = any_more test places (seats_of p) tag h (sym tested ∙ sym e ∙ miss)
 
     -- the tag has one
-    pub rest_hit : {seat : Seat} → tag < places → Some seat ≡ seat_at p tag → test seat ≡ true → Rest tag → some_seat test (model_of p) ≡ true
-    rest_hit {seat} h e found rest = any_hit test places (seats_of p) tag h (ap (hits test) (sym (seat_found p tag e)) ∙ found) rest
+    pub rest_hit : {hit : Bool} → tag < places → hit ≡ tags_of p.present tag && test (place_of p tag) → hit ≡ true → Rest tag → some_seat test (model_of p) ≡ true
+    rest_hit {hit} h e found rest = any_hit test places (seats_of p) tag h (sym tested ∙ sym e ∙ found) rest

@@ -15,6 +15,11 @@ use Rattle.panel.specs.Sound.{seats_in}
 unfoldable pub some_seat : (Seat → Bool) → Model → Bool
 some_seat test m = any test (seats_in m)
 
+-- "An absent tag carries nothing": whether there is a seat, and it passes a test.
+abbrev pub there_and : (Seat → Bool) → Option Seat → Bool
+there_and test none = false
+there_and test (some seat) = test seat
+
 -- A terminal from the first on and below the end.
 abbrev pub within : ℕ → ℕ → ℕ → Bool
 within from end terminal = leb from terminal && ltb terminal end

@@ -60,16 +60,15 @@ fn judge(panel: &Panel, t: u64, n: u64, up: u64, down: u64) -> Result<(), Refusa
     let mut busy = false;
     let mut past = false;
     for tag in 0..CELLS {
-        if let Some(seat) = panel.seat(tag) {
-            used |= seats::stands_within(seat, t, from);
-            busy |= seats::is_busy_above(seat, from);
-            past |= seats::passes_end(seat, from, up);
-        }
+        let seat = panel.seat(tag);
+        used |= seats::stands_within(seat, t, from);
+        busy |= seats::is_busy_above(seat, from);
+        past |= seats::passes_end(seat, from, up);
     }
     first_met(used, busy, past)
 }
 
-// What was met at a seat: a terminal in use, a busy blind, or a terminal that would pass the strip.
+// What was met at a tag: a terminal in use, a busy blind, or a terminal that would pass the strip.
 #[tactic(auto, unfolding(answers::specs::Answers::first))]
 fn first_met(used: bool, busy: bool, past: bool) -> Result<(), Refusal>
     ensures { answer_of result ≡ refusal ((used, 10) ∷ (busy, 3) ∷ (past, 9) ∷ []) }

@@ -27,7 +27,8 @@ returns-in-Err c = refuses _ _ _ c.refused.ensures (sym c.in-Err.ensures)
 
 pub overflow_cast-panel : goal.overflow_cast-panel
 overflow_cast-panel c =
-    omega (arith, (within c.args.tag c.args.terminal (row_of c.args.asked) c.args.panel c.in_default.ensures).terminal_low)
+    let inside = within c.args.tag c.args.terminal (row_of c.args.asked) c.args.panel c.in_default.ensures in
+    omega (arith, inside.tag_low, inside.terminal_low)
 
 pub offset_bounds-panel-tag : goal.offset_bounds-panel-tag
 offset_bounds-panel-tag c = omega (arith, (within c.args.tag c.args.terminal (row_of c.args.asked) c.args.panel c.in_default.ensures).tag_low)

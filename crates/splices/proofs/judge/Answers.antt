@@ -6,11 +6,10 @@ use Rattle.panel.specs.Panel.{model_of}
 use Rattle.panel.specs.Sound.{is_sound}
 use Rattle.panel.proofs.Checks.{not_sound, outside_range, own_checks}
 use Rattle.seats.specs.Seats.{in_use, busy_from, would_pass}
-use Rattle.seats.proofs.Walk.{rest_all, met_seat, met_none, met_end}
+use Rattle.seats.proofs.Walk.{rest_all, asked, met_more, met_end}
 use Rattle.splices.specs.Splices.{off_strip}
 use Rattle.splices.specs.Places.{splice_rule}
 use Rattle.splices.proofs.Strip.{on_strip}
-use Rattle.splices.proofs.judge.Goals.{in-Some, in_default}
 use Rattle.splices.proofs.judge.Goals as goal
 
 pub returns-then-not-is_sound : goal.returns-then-not-is_sound
@@ -30,18 +29,13 @@ loop-tag-init c = record { used = rest_all _ _; busy = rest_all _ _; past = rest
 
 pub loop-tag-preserved : goal.loop-tag-preserved
 loop-tag-preserved c =
-    elim c.match-seat.branch [
-      | in-Some w ↦ record {
-        used = met_seat _ _ c.loop-tag.tag c.loop-tag.used c.loop-tag-test.true w.in-Some.ensures w.stands_within-used.ensures w.used-is c.loop-tag.invariant.used;
-        busy = met_seat _ _ c.loop-tag.tag c.loop-tag.busy c.loop-tag-test.true w.in-Some.ensures w.is_busy_above-busy.ensures w.busy-is c.loop-tag.invariant.busy;
-        past = met_seat _ _ c.loop-tag.tag c.loop-tag.past c.loop-tag-test.true w.in-Some.ensures w.passes_end-past.ensures w.past-is c.loop-tag.invariant.past;
-      }
-      | in_default w ↦ record {
-        used = met_none _ _ c.loop-tag.tag c.loop-tag.used c.loop-tag-test.true w.in_default.ensures w.used-is c.loop-tag.invariant.used;
-        busy = met_none _ _ c.loop-tag.tag c.loop-tag.busy c.loop-tag-test.true w.in_default.ensures w.busy-is c.loop-tag.invariant.busy;
-        past = met_none _ _ c.loop-tag.tag c.loop-tag.past c.loop-tag-test.true w.in_default.ensures w.past-is c.loop-tag.invariant.past;
-      }
-    ]
+    let tag = c.loop-tag.tag in
+    let low = c.loop-tag-test.true in
+    record {
+      used = met_more _ _ tag c.loop-tag.used low (asked _ c.args.panel.now tag c.seat-seat.ensures c.stands_within-used.ensures) c.loop-tag.invariant.used;
+      busy = met_more _ _ tag c.loop-tag.busy low (asked _ c.args.panel.now tag c.seat-seat.ensures c.is_busy_above-busy.ensures) c.loop-tag.invariant.busy;
+      past = met_more _ _ tag c.loop-tag.past low (asked _ c.args.panel.now tag c.seat-seat.ensures c.passes_end-past.ensures) c.loop-tag.invariant.past;
+    }
 
 -- the three checks with what they ask
 told : {a b c x y z : Bool} → a ≡ x → b ≡ y → c ≡ z → refusal ((a, 10) ∷ (b, 3) ∷ (c, 9) ∷ []) ≡ refusal ((x, 10) ∷ (y, 3) ∷ (z, 9) ∷ [])
