@@ -47,11 +47,11 @@ impl TryFrom<u8> for Kind {
 pub const LAST: Kind = Kind::Sapbp;
 
 // A class is its greatest value and no enum, as `class_of` has it: a value is compared with it.
-const ONE_BIT: u32 = 1;
+pub const ONE_BIT: u32 = 1;
 
-const TWO_BITS: u32 = 3;
+pub const TWO_BITS: u32 = 3;
 
-const ONE_BYTE: u32 = 255;
+pub const ONE_BYTE: u32 = 255;
 
 // FO is of two bits and SAPBP of one byte; every other kind is of one bit, and so is a number that no kind has. A number in
 // 32 bits and no `Kind`: a table may hold any, and a loop over its words has one width.

@@ -10,6 +10,7 @@ use borrow.Author.Tests.{eq-eqb, ne_eqb}
 use Rattle.heights.specs.declared.Direction.{Direction}
 use Rattle.heights.specs.declared.Place.{Place}
 use Rattle.heights.specs.Heights.{place_after}
+use Rattle.runs.specs.declared.Goal.{Goal}
 use Rattle.runs.specs.declared.Run.{Run}
 use Rattle.runs.specs.Millisecond.{shorter}
 use Rattle.blind.specs.declared.Motion.{Motion}
@@ -96,3 +97,22 @@ whole dt k run b place runs most there =
     ap (λ (x : Place). milliseconds (dt - k) (with_motion (Motion.Runs (shorter k run)) (with_place x b))) there
     ∙ running_on dt k run b (omega arith) (omega arith)
     ∙ ap (λ (m : Motion). milliseconds dt (with_motion m b)) (sym runs)
+
+-- the run that a motion holds, and where it holds none one of no length
+abbrev pub run_in : Motion → Run
+run_in (Motion.Off rest) = record { direction = Direction.Up; goal = Goal.Full; length = 0 }
+run_in (Motion.Waits rest run) = run
+run_in (Motion.Runs run) = run
+
+-- the milliseconds that may be worked on at once
+abbrev pub smooth : ℕ → Motion → ℕ
+smooth dt m = min dt ((run_in m).length - 1)
+
+-- nothing is left of the time
+pub whole_at_once : (dt : ℕ) (b : Blind) → b.motion ≡ Motion.Runs (run_in b.motion) → dt - smooth dt b.motion ≡ 0
+    → milliseconds dt b
+    ≡ with_motion (Motion.Runs (shorter (smooth dt b.motion) (run_in b.motion))) (moved_by (smooth dt b.motion) (run_in b.motion).direction b)
+unfolding milliseconds
+whole_at_once dt b runs none =
+    sym (whole dt (smooth dt b.motion) (run_in b.motion) b _ runs refl refl)
+    ∙ ap (λ (n : ℕ). milliseconds n (with_motion (Motion.Runs (shorter (smooth dt b.motion) (run_in b.motion))) (moved_by (smooth dt b.motion) (run_in b.motion).direction b))) none

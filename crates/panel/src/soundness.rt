@@ -3,14 +3,15 @@
 ghost use Rattle.std.specs.Prelude.{◌/◌, ◌%◌, ◌^◌, ◌≡◌, not, ◌&&◌};
 ghost use Rattle.tags.specs.Tags.{places, tags_of};
 ghost use Rattle.link.specs.Link.{of_word};
-ghost use Rattle.table.specs.Links.{held_of};
+ghost use Rattle.table.specs.Links.{links_in, held_in};
+ghost use Rattle.table.specs.Sound as ofLinks;
 ghost use Rattle.panel.specs.Panel.{model_of};
 ghost use Rattle.terminals.specs.Strip.{taken_of};
 ghost use Rattle.panel.specs.Sound.{all_named, is_sound, sound_seat, sound_seats};
 
 use crate::{Panel, Seat};
 use link::words::tag_in;
-use table::{MOST, Table};
+use table::soundness;
 use tags::{CELLS, PLACES, Tags};
 use terminals::{Strip, TERMINALS};
 
@@ -19,7 +20,12 @@ impl Panel {
     pub fn is_sound(&self) -> bool
         ensures { result ≡ is_sound (model_of self.now) }
     {
-        self.seats_sound() && self.table.is_sound() && all_named(self.present, &self.table)
+        is_sound(
+            self.seats_sound(),
+            self.present,
+            &self.table.words,
+            self.table.count,
+        )
     }
 
     // Whether the seats are sound, whatever the links.
@@ -52,15 +58,23 @@ impl Seat {
     }
 }
 
+// Whether the panel is sound whose seats have been judged and whose links are these: words and a count, since any slice
+// may be tested.
+pub fn is_sound(seats: bool, present: Tags, words: &[u32], count: usize) -> bool
+    ensures { result ≡ (seats && (ofLinks.is_sound (held_in count words.now) && all_named (tags_of present) (links_in count words.now))) }
+{
+    seats && soundness::is_sound(words, count) && all_named(present, words, count)
+}
+
 // Each link names a present blind. The or of all words has a tag past 63 exactly if one of them has. The tags
 // without a blind are shifted by each tag: no lowest digit is 1 exactly if each tag has a blind.
-pub fn all_named(present: Tags, table: &Table) -> bool
-    ensures { result ≡ all_named (tags_of present) (held_of table.now).links }
+pub fn all_named(present: Tags, words: &[u32], count: usize) -> bool
+    ensures { result ≡ all_named (tags_of present) (links_in count words.now) }
 {
     let free = !present.word;
     let mut joined: u32 = 0;
     let mut missing: u64 = 0;
-    for &word in &table.words[..table.count.min(MOST)] {
+    for &word in &words[..count.min(words.len())] {
         joined |= word;
         missing |= from_tag(free, word);
     }

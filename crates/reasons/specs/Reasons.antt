@@ -102,8 +102,7 @@ left (Motion.Off rest) = 0
 left (Motion.Waits rest order) = rest
 left (Motion.Runs run) = 0
 
--- "Wrong class (6), dropped under wind, rain, frost or forced .., dropped for lack of a valid position, waiting for the pause with the
--- milliseconds left, or it acts. Where several apply, that is their order."
+-- The last three, which are asked where nobody who rules forbids it.
 abbrev pub unruled_tests : ℕ → Judged → List (Bool × Reason)
 unruled_tests value j =
     (lacks_position value j, Reason.NoPosition)
@@ -111,6 +110,8 @@ unruled_tests value j =
     ∷ (changed j.before j.after, Reason.Acts)
     ∷ []
 
+-- "Wrong class (6), dropped under wind, rain, frost or forced .., dropped for lack of a valid position, waiting for the pause with the
+-- milliseconds left, or it acts. Where several apply, that is their order."
 unfoldable pub link_tests : ℕ → Judged → List (Bool × Reason)
 link_tests value j =
     (ltb (class_of j.kind) value, Reason.WrongClass)

@@ -22,7 +22,7 @@ pub fn remove_blind(mut panel: Panel, tag: u64) -> Answered<Panel>
     if !panel.seats_sound() {
         return Answered::refused(panel, Refusal::NotSound);
     }
-    if !all_named(panel.present, &panel.table) {
+    if !all_named(panel.present, &panel.table.words, panel.table.count) {
         return Answered::refused(panel, Refusal::NotSound);
     }
     if let Err(refusal) = judge_named(PLACES <= tag, panel.seat(tag as usize)) {

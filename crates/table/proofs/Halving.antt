@@ -110,26 +110,12 @@ pub record Leads (key : ℕ) (ls : List Link) (low high : ℕ) : Type 0 where
   on : halved (is_below key ls) left low high ≡ searched key ls
   pub within : high ≤ length ls
 
--- the links that the search looks at: those of a table, and no more than 512
-abbrev pub in_table : Table → List Link
-in_table t = links_in (min t.count most) t.words
-
-module _ (t : Table) (key : ℕ) where
-  abbrev ls : List Link
-  ls = in_table t
-
-  pub leads_first : {high : ℕ} → length t.words ≡ most → high ≡ min t.count most → Leads key (in_table t) 0 high
+module _ (key : ℕ) (ls : List Link) where
+  pub leads_first : {high : ℕ} → length ls ≤ most → high ≡ length ls → Leads key ls 0 high
   unfolding searched
-  leads_first whole e =
-      let held = places (record t { count = min t.count most }) in
-      record {
-        left = most_looks;
-        enough = omega arith;
-        on = ap (halved (is_below key ls) most_looks 0) (omega (arith, held, whole, e));
-        within = omega (arith, held, whole, e);
-      }
+  leads_first few e = record { left = most_looks; enough = omega arith; on = ap (halved (is_below key ls) most_looks 0) e; within = omega arith }
 
-  pub leads_last : {low high : ℕ} → Leads key (in_table t) low high → high ≤ low → low ≡ searched key (in_table t)
+  pub leads_last : {low high : ℕ} → Leads key ls low high → high ≤ low → low ≡ searched key ls
   leads_last {low} {high} so_far h = sym (halved_over (is_below key ls) so_far.left low high h) ∙ so_far.on
 
   -- a look that leaves no more than a half
@@ -142,28 +128,32 @@ module _ (t : Table) (key : ℕ) where
       go zero f e = absurd (omega arith)
       go (suc n) f e = record { left = n; enough = half (2 ^ n) (omega (arith, two-pow-succ n)); on = sym (look n) ∙ e; within = within }
 
-  -- one look at a word of the table
-  module _ {low high k : ℕ} (so_far : Leads key (in_table t) low high) (some : low < high) (read : k ≡ get_or t.words (middle low high) 0) where
-    looked : k ≡ key_of (get_or ls (middle low high) nothing)
-    looked =
-        let shown : Table = record t { count = min t.count most } in
-        read
-        ∙ sym (word_back (get_or t.words (middle low high) 0))
-        ∙ ap key_of (sym (held_at shown (middle low high) (omega (arith, so_far.within, places shown))))
+-- one look at a link of a table
+module _ (t : Table) (key : ℕ) {low high k : ℕ} (so_far : Leads key (held_of t).links low high) (some : low < high)
+    (read : k ≡ get_or t.words (middle low high) 0) where
+  looked : k ≡ key_of (get_or (held_of t).links (middle low high) nothing)
+  looked =
+      read
+      ∙ sym (word_back (get_or t.words (middle low high) 0))
+      ∙ ap key_of (sym (held_at t (middle low high) (omega (arith, so_far.within, places t))))
 
-    pub leads_after : k < key → Leads key (in_table t) (middle low high + 1) high
-    leads_after h =
-        leads_on so_far some
-        (λ n. halved_after (is_below key ls) n low high some (lt-ltb _ key (omega (arith, looked))))
-        (λ p f. omega arith) so_far.within
+  pub leads_after : k < key → Leads key (held_of t).links (middle low high + 1) high
+  leads_after h =
+      leads_on key (held_of t).links so_far some
+      (λ n. halved_after (is_below key (held_of t).links) n low high some (lt-ltb _ key (omega (arith, looked))))
+      (λ p f. omega arith) so_far.within
 
-    pub leads_before : key ≤ k → Leads key (in_table t) low (middle low high)
-    leads_before h =
-        leads_on so_far some
-        (λ n. halved_before (is_below key ls) n low high some (le-ltb _ key (omega (arith, looked))))
-        (λ p f. omega arith) (omega (arith, so_far.within))
+  pub leads_before : key ≤ k → Leads key (held_of t).links low (middle low high)
+  leads_before h =
+      leads_on key (held_of t).links so_far some
+      (λ n. halved_before (is_below key (held_of t).links) n low high some (le-ltb _ key (omega (arith, looked))))
+      (λ p f. omega arith) (omega (arith, so_far.within))
 
 -- ---- in a sound table
+
+-- the links that the search looks at: those of a table, and no more than 512
+abbrev pub in_table : Table → List Link
+in_table t = links_in (min t.count most) t.words
 
 module _ (t : Table) (sound : is_sound (held_of t) ≡ true) where
   -- the search tells how many links stand below the key

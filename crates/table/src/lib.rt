@@ -2,8 +2,8 @@
 // address, tag and kind. Words are numbers, so whoever reads them is lent them; a panel or a table goes by value.
 #![tactic(auto)]
 
-mod search;
-mod soundness;
+pub mod search;
+pub mod soundness;
 
 ghost use Rattle.std.specs.Prelude.{◌≡◌, []};
 ghost use Rattle.table.specs.Links.{held_of, holding};

@@ -7,8 +7,9 @@ use mathlib.Core.Bool.{Bool, true, false, cond}
 use mathlib.Core.List.{List, [], ◌∷◌}
 use mathlib.Core.Option.{Option, none, some, map}
 use lib.ListN.{length, get_or, set, take, drop, length-set}
+use lib.Seq.{get_or-set_same, get_or-set_other}
 use lib.Dec.{eqb}
-use borrow.Author.Tests.{eqb-true}
+use borrow.Author.Tests.{eqb-true, eqb-false}
 use Rattle.laws.specs.Fills.{tabulate}
 use Rattle.laws.proofs.Fills.{tabulate_length}
 use Rattle.laws.proofs.Parts.{first_next}
@@ -27,7 +28,7 @@ use Rattle.table.proofs.Sound.{sound_decided}
 use Rattle.table.proofs.Stores.{few, many, held_at}
 use Rattle.panel.specs.declared.Panel.{Panel}
 use Rattle.panel.specs.declared.Seat.{Seat}
-use Rattle.panel.specs.Panel.{Model, place_of, seats_of, model_of, reseated, each_seat, on_blind}
+use Rattle.panel.specs.Panel.{Model, vacant, place_of, seats_of, model_of, reseated, each_seat, on_blind}
 use Rattle.panel.specs.Fields.{with_seats}
 use Rattle.panel.specs.Sound.{Sound}
 use Rattle.panel.specs.Reports.{reports}
@@ -64,6 +65,18 @@ link_served p link value b present fits e =
         ∙ sym (ap (λ (o : Option Seat). map (rule true) o) (ap (seats_of p) (eqb-true tag link.tag f) ∙ seat_present p link.tag present))
     go tag false f = kept (seats_of p tag)
 
+-- and every terminal stays
+terminal_stays : (p : Panel) (t : ℕ) (b : Blind) → t < length p.seats → (tag : ℕ)
+    → (get_or (set p.seats t (record { terminal = (place_of p t).terminal; blind = b })) tag vacant).terminal ≡ (place_of p tag).terminal
+terminal_stays p t b fits tag = go (eqb tag t) refl
+  where
+    new : Seat
+    new = record { terminal = (place_of p t).terminal; blind = b }
+
+    go : (same : Bool) → eqb tag t ≡ same → (get_or (set p.seats t new) tag vacant).terminal ≡ (place_of p tag).terminal
+    go true e = rw (eqb-true tag t e, get_or-set_same p.seats t new vacant fits)
+    go false e = rw (get_or-set_other p.seats t tag new vacant (eqb-false tag t e))
+
 -- ---- all links of a span
 
 module _ (value : ℕ) (p : Panel) (start count : ℕ) where
@@ -78,6 +91,8 @@ module _ (value : ℕ) (p : Panel) (start count : ℕ) where
   -- the panel and the cells when so many links have spoken
   pub record Delivering (next : Panel) (cells : List ℕ) (turn : ℕ) : Type 0 where
     pub only : next ≡ with_seats next.seats p
+    -- every terminal stays, at the absent tags too
+    pub terminals : (tag : ℕ) → (place_of next tag).terminal ≡ (place_of p tag).terminal
     pub room : length next.seats ≡ places
     pub rest : delivered value (left turn) (model_of next) ≡ target
     pub sound : Sound (model_of next)
@@ -89,6 +104,7 @@ module _ (value : ℕ) (p : Panel) (start count : ℕ) where
       let here : start + 0 ≡ start = omega arith in
       record {
         only = refl;
+        terminals = λ tag. refl;
         room = room;
         rest = ap₂ (λ (k i : ℕ). delivered value (take k (drop i (held_of p.table).links)) (model_of p)) all here;
         sound = sound;
@@ -166,6 +182,7 @@ module _ (value : ℕ) (p : Panel) (start count : ℕ) where
               let does = link_served next link value b present fits heard in
               record {
                 only = ap (with_seats (set next.seats link.tag (record { terminal = (place_of next link.tag).terminal; blind = b }))) so_far.only;
+                terminals = λ tag. terminal_stays next link.tag b fits tag ∙ so_far.terminals tag;
                 room = length-set next.seats link.tag (record { terminal = (place_of next link.tag).terminal; blind = b }) ∙ so_far.room;
                 rest =
                     ap (delivered value (left (turn + 1))) does

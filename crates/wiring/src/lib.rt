@@ -66,7 +66,8 @@ pub fn remove_link(mut panel: Panel, address: u64, tag: u64, kind: u64) -> Answe
 fn links_sound(panel: &Panel, edited: Result<u64, Refusal>) -> bool
     ensures { result ≡ (not (eqb (answer_of edited) 12) && all_named (tags_of panel.now.present) (held_of panel.now.table).links) }
 {
-    edited != Err(Refusal::NotSound) && all_named(panel.present, &panel.table)
+    edited != Err(Refusal::NotSound)
+        && all_named(panel.present, &panel.table.words, panel.table.count)
 }
 
 // What refuses a new link on a sound panel: its range, its blind, and then what the table answered.

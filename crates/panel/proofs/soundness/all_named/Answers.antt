@@ -1,6 +1,6 @@
 -- A turn finds in one word what the test of the whole asks of it; at the end the joined words tell what all of them do.
 -- Assumes nothing.
-use Rattle.std.proofs.Common.{◌≡◌, ℕ, min, length, sym, ◌-◌, ◌^◌, ◌&&◌, List, map, take, get_or, bit_or, ltb, refl, ap, ◌∙◌, arith}
+use Rattle.std.proofs.Common.{ℕ, ◌-◌, ◌^◌, ◌&&◌, List, map, take, get_or, bit_or, ltb, refl, ap, ◌∙◌, arith}
 use Rattle.std.proofs.lemmas.List.{take_min}
 use Rattle.laws.proofs.Every.{every_on, every_over}
 use Rattle.link.specs.Link.{of_word}
@@ -9,17 +9,13 @@ use Rattle.panel.specs.Sound.{all_named}
 use Rattle.panel.proofs.Names.{near, even, found_in, found_joined, words_named}
 use Rattle.panel.proofs.soundness.all_named.Goals as goal
 
--- a count that is cut to the places that there are takes the same words
-capped : (count : ℕ) (words : List ℕ) {end : ℕ} → length words ≡ 512 → end ≡ min count 512 → take end words ≡ take count words
-capped count words long e = ap (λ (n : ℕ). take n words) (e ∙ ap (λ (n : ℕ). min count n) (sym long)) ∙ take_min count words
-
 pub loop-word-init : goal.loop-word-init
 unfolding of_word
 loop-word-init c = refl
 
 pub loop-word-preserved : goal.loop-word-preserved
 loop-word-preserved c =
-    let words = take c.min.result c.args.table.now.words in
+    let words = take c.min.result c.args.words.now in
     let free = 2 ^ 64 - 1 - c.args.present.word in
     let word = get_or words c.loop-word.word-index 0 in
     every_on (found_in free) words 0 c.loop-word.word-index (near c.loop-word.joined && even c.loop-word.missing)
@@ -29,10 +25,10 @@ loop-word-preserved c =
 
 pub returns : goal.returns
 returns c =
-    let words = take c.min.result c.args.table.now.words in
+    let words = take c.min.result c.args.words.now in
     let free = 2 ^ 64 - 1 - c.args.present.word in
     ap (λ (t : ℕ). ltb t places && even c.loop-word.missing) c.tag_in.ensures
     ∙ every_over (found_in free) words 0 c.loop-word.word-index (near c.loop-word.joined && even c.loop-word.missing) c.loop-word-test.false c.loop-word.invariant
     ∙ words_named c.args.present.word (omega arith) words
     ∙ ap (λ (xs : List ℕ). all_named (tags_of c.args.present) (map of_word xs))
-    (capped c.args.table.now.count c.args.table.now.words (omega arith) c.min.ensures)
+    (ap (λ (n : ℕ). take n c.args.words.now) c.min.ensures ∙ take_min c.args.count c.args.words.now)

@@ -4,7 +4,7 @@ use Rattle.std.proofs.lemmas.Grind.{common_steps}
 use Rattle.laws.specs.Every.{every}
 use Rattle.laws.proofs.Every.{every_on, every_over}
 use Rattle.laws.proofs.Ors.{or_none}
-use Rattle.table.proofs.Table.is_tidy.Goals as goal
+use Rattle.table.proofs.soundness.is_tidy.Goals as goal
 
 pub loop-word-preserved : goal.loop-word-preserved
 loop-word-preserved c =

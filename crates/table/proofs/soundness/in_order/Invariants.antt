@@ -3,7 +3,7 @@ use Rattle.std.proofs.Common.{◌≡◌, ◌≤◌, true, ◌&&◌, drop, map, e
 use Rattle.kinds.specs.Kinds.{class_of}
 use Rattle.link.specs.Link.{nothing, of_word}
 use Rattle.table.specs.Sound.{in_order}
-use Rattle.table.proofs.Table.in_order.Given as goal
+use Rattle.table.proofs.soundness.in_order.Given as goal
 
 abbrev pub invariant-loop-word : goal.invariant-loop-word
 invariant-loop-word l =
