@@ -7,7 +7,7 @@ use Rattle.answers.specs.declared.Answered.{Answered}
 use Rattle.answers.specs.Numbers.{number_of, answer_of, count_of, refused_on, done_on}
 use Rattle.answers.specs.Answers.{refusal}
 use Rattle.answers.specs.Rules.{Result}
-use Rattle.answers.proofs.Numbers.{some_number}
+use Rattle.answers.proofs.Numbers.{some_number, same_outcome}
 use Rattle.answers.proofs.Rules.{refused, refuse_with, accept}
 use Rattle.panel.specs.declared.Panel.{Panel}
 use Rattle.panel.specs.Panel.{Model, model_of}
@@ -49,3 +49,10 @@ module _ {rule : CallRule} {panel : Panel} {entry : Cells} where
   pub one_outcome : {r₁ r₂ : Answered Panel} {exit₁ exit₂ : Cells} → Does rule panel entry r₁ exit₁ → Does rule panel entry r₂ exit₂
       → handed r₁ exit₁ ≡ handed r₂ exit₂
   one_outcome p q = p.outcome ∙ sym q.outcome
+
+  -- and so are their answers with the counts, as the caller is handed them
+  pub one_answered : {r₁ r₂ : Answered Panel} {exit₁ exit₂ : Cells} → Does rule panel entry r₁ exit₁ → Does rule panel entry r₂ exit₂
+      → r₁.outcome ≡ r₂.outcome
+  one_answered {r₁} {r₂} p q =
+      let whole = one_outcome p q in
+      same_outcome r₁.outcome r₂.outcome (ap (λ (x : Result Model Cells). x.answer) whole) (ap (λ (x : Result Model Cells). x.count) whole)

@@ -1,16 +1,12 @@
 -- A strip reading and an inventory leave the very panel, so a sound one stays sound; and any two inventories that the promise
 -- allows are the same. Assumes nothing.
-use Prim.Native.Nat.{◌-◌}
 use mathlib.Core.Path.{◌≡◌, refl, sym, ap, ◌∙◌}
-use mathlib.Core.Bool.{cond}
-use mathlib.Core.List.{List, [], ◌∷◌}
-use lib.ListN.{get_or}
-use lib.Dec.{eqb}
 use Rattle.std.specs.Prelude.{Ok, Err}
 use Rattle.std.specs.Prelude as prelude
 use Rattle.answers.specs.declared.Refusal.{Refusal}
 use Rattle.answers.specs.Answers.{refusal}
 use Rattle.answers.specs.Rules.{Result, carried}
+use Rattle.answers.proofs.Numbers.{outcome_from, refusal_back}
 use Rattle.answers.proofs.Rules.{leaves_has, one_outcome}
 use Rattle.panel.specs.Panel.{Model}
 use Rattle.panel.specs.Sound.{Sound}
@@ -31,41 +27,12 @@ module _ (m : Model) (cells : Cells) where
 
 -- an inventory, from what it says: its numbers, or the refusal with its number
 back : Result Model Cells → prelude.Result Counted Refusal
-back r = cond (eqb r.answer 0) (Ok (record { blinds = r.count; lowest = r.second })) (Err (get_or table (r.answer - 1) Refusal.ShortBuffer))
-  where
-    table : List Refusal
-    table =
-        Refusal.OutOfRange
-        ∷ Refusal.NoBlind
-        ∷ Refusal.Busy
-        ∷ Refusal.AlreadyThere
-        ∷ Refusal.NoLink
-        ∷ Refusal.NotOfTheClass
-        ∷ Refusal.TableFull
-        ∷ Refusal.AnotherClass
-        ∷ Refusal.PastTheStrip
-        ∷ Refusal.TerminalInUse
-        ∷ Refusal.WrongCells
-        ∷ Refusal.NotSound
-        ∷ Refusal.ShortBuffer
-        ∷ []
+back r = outcome_from (record { blinds = r.count; lowest = r.second }) r.answer
 
 told : (m : Model) (r : prelude.Result Counted Refusal) → back (counted_of r m) ≡ r
-unfolding back
+unfolding back outcome_from
 told m (Ok inventory) = refl
-told m (Err Refusal.OutOfRange) = refl
-told m (Err Refusal.NoBlind) = refl
-told m (Err Refusal.Busy) = refl
-told m (Err Refusal.AlreadyThere) = refl
-told m (Err Refusal.NoLink) = refl
-told m (Err Refusal.NotOfTheClass) = refl
-told m (Err Refusal.TableFull) = refl
-told m (Err Refusal.AnotherClass) = refl
-told m (Err Refusal.PastTheStrip) = refl
-told m (Err Refusal.TerminalInUse) = refl
-told m (Err Refusal.WrongCells) = refl
-told m (Err Refusal.NotSound) = refl
-told m (Err Refusal.ShortBuffer) = refl
+told m (Err why) = refusal_back (record { blinds = 0; lowest = 0 }) why
 
 -- the whole result
 pub one_counted : (m : Model) {o : Result Model Cells} (r₁ r₂ : prelude.Result Counted Refusal) → counted_of r₁ m ≡ o → counted_of r₂ m ≡ o → r₁ ≡ r₂
