@@ -12,7 +12,9 @@ impl Blind {
     pub fn millisecond(self) -> Blind
         ensures { result ≡ millisecond self }
     {
-        match self.motion {
+        // Copied first: matched in place, a millisecond of waiting takes half as long again.
+        let motion = self.motion;
+        match motion {
             Motion::Off(rest) => self.with_motion(Motion::Off(left(rest, 1))),
             Motion::Waits(rest, run) => self.wait(rest, run),
             Motion::Runs(run) => self.run(run),

@@ -138,14 +138,7 @@ fn next_height(direction: Direction, bottom: u32, position: u32) -> u32
 {
     match direction {
         Direction::Up => position.saturating_sub(1),
-        // Compared once: by `saturating_add` and `min` it is compared twice, and a long step took a third longer.
-        Direction::Down => {
-            if position < bottom {
-                position + 1
-            } else {
-                bottom
-            }
-        }
+        Direction::Down => position.saturating_add(1).min(bottom),
     }
 }
 

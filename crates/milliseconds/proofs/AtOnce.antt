@@ -30,6 +30,9 @@ resting (suc k) rest b =
     let less : rest - k - 1 ≡ rest - suc k = omega arith in
     ap millisecond (resting k rest b) ∙ ap (λ (n : ℕ). with_motion (Motion.Off n) b) less
 
+pub rested : (k rest : ℕ) (b : Blind) → b.motion ≡ Motion.Off rest → milliseconds k b ≡ with_motion (Motion.Off (rest - k)) b
+rested k rest b e = ap (λ (m : Motion). milliseconds k (with_motion m b)) e ∙ resting k rest b
+
 -- ---- waiting
 
 -- before the pause is over

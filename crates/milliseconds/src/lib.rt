@@ -11,7 +11,8 @@ pub fn milliseconds(blind: Blind, dt: u64) -> Blind
     ensures { result ≡ milliseconds dt blind }
 {
     match blind.motion {
-        Motion::Off(_) | Motion::Waits(_, _) => one_by_one(blind, dt),
+        Motion::Off(rest) => rest_on(blind, rest, dt),
+        Motion::Waits(_, _) => one_by_one(blind, dt),
         Motion::Runs(run) => run_on(blind, run, dt),
     }
 }
@@ -24,6 +25,19 @@ fn one_by_one(mut blind: Blind, dt: u64) -> Blind
         blind = blind.millisecond();
     }
     blind
+}
+
+// At rest the rest time alone falls, so it falls at once, however long the step.
+#[tactic(auto, using(crate::proofs::AtOnce::rested))]
+fn rest_on(blind: Blind, rest: u32, dt: u64) -> Blind
+    requires { blind.motion ≡ Motion.Off rest }
+    ensures { result ≡ milliseconds dt blind }
+{
+    let left = u64::from(rest).saturating_sub(dt) as u32;
+    Blind {
+        motion: Motion::Off(left),
+        ..blind
+    }
 }
 
 // Until its last millisecond a run changes the place and its length alone, so only these are worked on.
