@@ -25,10 +25,22 @@ pub(crate) fn writings(first: Panel, n: u64, file: &mut [u8]) -> Tally {
 
 // The number of the bad line is counted, and the panel that was read last.
 pub(crate) fn file_readings(file: &[u8], n: u64) -> Tally {
-    repeated(Panel::empty(), n, |_, _| match read(file) {
-        Ok(panel) => Answered::done(panel, 0),
-        Err(BadLine(line)) => Answered::done(Panel::empty(), line),
-    })
+    let mut panel = Panel::empty();
+    let mut tally = Tally::none();
+    for _ in 0..n {
+        let done = read(file);
+        panel = done.panel;
+        tally = tally.with(Ok(bad_line(done.outcome)));
+    }
+    tally.with_panel(panel)
+}
+
+// 0 where none is bad.
+fn bad_line(outcome: Result<(), BadLine>) -> u64 {
+    match outcome {
+        Ok(_) => 0,
+        Err(BadLine(line)) => line,
+    }
 }
 
 // Rubbish: two bytes in turn up to the end, which is a line feed.
