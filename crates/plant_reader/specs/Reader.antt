@@ -6,19 +6,23 @@ use Rattle.std.proofs.Math.Option as ofMath
 use Rattle.laws.specs.Fills.{tabulate}
 use Rattle.params.specs.declared.Asked.{Asked}
 use Rattle.params.specs.Numbers.{set_size, asked_of}
-use Rattle.panel.specs.declared.Panel.{Panel}
 use Rattle.panel.specs.Panel.{model_of, bare}
 use Rattle.arguments.specs.declared.Arguments.{Arguments}
 use Rattle.arguments.specs.Arguments.{value_at}
-use Rattle.plant.specs.Read.{Plan, blind_size, good_file, bad_in}
+use Rattle.plant.specs.Read.{Plan, blind_size}
 use Rattle.plant.specs.Read as ofPlant
 use Rattle.plant_reader.specs.declared.BadLine.{BadLine}
+use Rattle.plant_reader.specs.declared.FileRead.{FileRead}
 use Rattle.plant_reader.specs.declared.drafts.Draft.{Draft}
 
--- The answer, and the panel: 0 and the panel of the file, or the number of the first bad line and the empty panel.
-abbrev pub read_of : Result Panel BadLine → ofPlant.FileRead
-read_of (Ok panel) = good_file (model_of panel)
-read_of (Err bad) = bad_in bad.0
+-- The answer: 0, or the number of the first bad line.
+abbrev pub line_in : {A : Type 0} → Result A BadLine → ℕ
+line_in (Ok a) = 0
+line_in (Err bad) = bad.0
+
+-- The answer, and the panel.
+abbrev pub read_of : FileRead → ofPlant.FileRead
+read_of r = record { line = line_in r.outcome; panel = model_of r.panel }
 
 -- What the lines so far say.
 abbrev pub plan_of : Draft → Plan

@@ -6,7 +6,7 @@ mod drafts;
 mod first_line;
 
 ghost use Rattle.std.specs.Prelude.{◌≡◌, ◌<◌, IfErr};
-ghost use Rattle.plant.specs.Read.{file_read};
+ghost use Rattle.plant.specs.Read.{bad_in, file_read};
 ghost use Rattle.plant_reader.specs.Reader.{read_of};
 
 use crate::drafts::Draft;
@@ -14,21 +14,29 @@ use crate::first_line::version_of;
 use panel::Panel;
 use rows::line_end;
 
-// The number of the first bad line.
+// The number of the first bad line; lines are counted from 1.
 #[derive(Clone, Copy)]
 pub struct BadLine(pub u64);
 
-// The panel of a file, or its first bad line; lines are counted from 1.
+// The first bad line and an empty panel; or the panel of the file.
+#[derive(Clone, Copy)]
+pub struct FileRead {
+    pub outcome: Result<(), BadLine>,
+    pub panel: Panel,
+}
+
 #[tactic(auto, using(crate::proofs::Reading::first_unfed, crate::proofs::Reading::first_bad, crate::proofs::Reading::first_good, crate::proofs::Reading::file_end, crate::proofs::Reading::line_refused))]
-pub fn read(file: &[u8]) -> Result<Panel, BadLine>
+pub fn read(file: &[u8]) -> FileRead
     ensures value { read_of result ≡ file_read file.now }
-    ensures from_1 { IfErr result (λ bad. 0 < bad.0) }
+    ensures from_1 { IfErr result.outcome (λ bad. 0 < bad.0) }
 {
     let first = line_end(file, 0);
     if file.len() <= first {
-        return Err(BadLine(1));
+        return bad_in(1);
     }
-    let version = version_of(&file[..first]).ok_or(BadLine(1))?;
+    let Some(version) = version_of(&file[..first]) else {
+        return bad_in(1);
+    };
     let mut draft = Draft::start(version);
     let mut lines = 1;
     let mut at = first + 1;
@@ -36,11 +44,28 @@ pub fn read(file: &[u8]) -> Result<Panel, BadLine>
     while at < file.len() {
         let end = line_end(file, at);
         if file.len() <= end {
-            return Err(BadLine(lines + 1));
+            return bad_in(lines + 1);
         }
-        draft = draft.with(&file[at..end]).ok_or(BadLine(lines + 1))?;
+        let taken = draft.with(&file[at..end]);
+        match taken {
+            Some(next) => draft = next,
+            None => return bad_in(lines + 1),
+        }
         lines += 1;
         at = end + 1;
     }
-    Ok(draft.panel)
+    FileRead {
+        outcome: Ok(()),
+        panel: draft.panel,
+    }
+}
+
+fn bad_in(line: u64) -> FileRead
+    ensures value { read_of result ≡ bad_in line }
+    ensures from_1 { 0 < line → IfErr result.outcome (λ bad. 0 < bad.0) }
+{
+    FileRead {
+        outcome: Err(BadLine(line)),
+        panel: Panel::empty(),
+    }
 }

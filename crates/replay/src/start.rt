@@ -78,5 +78,7 @@ fn from_file<F: Read>(file: &mut F) -> Result<Panel, StartError> {
     if ROOM < have {
         return Err(StartError::TooLong);
     }
-    Ok(read(&bytes[..have])?)
+    let done = read(&bytes[..have]);
+    done.outcome?;
+    Ok(done.panel)
 }

@@ -13,27 +13,23 @@ use decimals::put_number;
 use file_word::unpack;
 use io::large_buffer;
 use panel::Panel;
-use plant_reader::{BadLine, read};
+use plant_reader::{BadLine, FileRead, read};
 use texts::Sheet;
 
 pub(crate) fn load(line: &[u8], sheet: &mut Sheet<'_>) -> Panel
     requires { length line.now ≤ longest }
     ensures { Leaves (loaded (file_read (unpacked (file_in line.now))) (on sheet.old)) result sheet.old sheet.new }
 {
-    match panel_of(line) {
-        Ok(panel) => {
-            put_number(sheet, 0);
-            panel
-        }
-        Err(BadLine(line)) => {
-            put_number(sheet, line);
-            Panel::empty()
-        }
+    let FileRead { outcome, panel } = file_of(line);
+    match outcome {
+        Ok(_) => put_number(sheet, 0),
+        Err(BadLine(number)) => put_number(sheet, number),
     }
+    panel
 }
 
 // A file has no more bytes than its word, so the buffer takes that of any line.
-fn panel_of(line: &[u8]) -> Result<Panel, BadLine>
+fn file_of(line: &[u8]) -> FileRead
     requires { length line.now ≤ longest }
     ensures { read_of result ≡ file_read (unpacked (file_in line.now)) }
 {

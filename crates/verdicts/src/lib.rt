@@ -7,7 +7,7 @@ ghost use Rattle.verdicts.specs.Verdicts.{verdict};
 
 use fields::ROOM;
 use fields::written::put_line;
-use plant_reader::{BadLine, read};
+use plant_reader::{BadLine, FileRead, read};
 use texts::Sheet;
 
 // Puts the line on a sheet.
@@ -18,8 +18,9 @@ pub fn put_verdict(sheet: &mut Sheet<'_>, file: &[u8])
     if ROOM < file.len() {
         return sheet.put_text(b"too long\n");
     }
-    match read(file) {
-        Ok(panel) => {
+    let FileRead { outcome, panel } = read(file);
+    match outcome {
+        Ok(_) => {
             let held = [panel.present.count() as u64, panel.table.count as u64];
             put_line(sheet, b"ok", &held);
         }

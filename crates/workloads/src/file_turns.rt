@@ -1,8 +1,7 @@
-// Plant files, each written or read n times.
+// Plant files, each written or read n times. Neither hands on a panel that it was handed: to make it a call for `repeated`
+// would be a copy that only the measurement needs.
 use crate::bus_turns::position_at;
-use crate::course::repeated;
 use crate::tally::Tally;
-use answers::Answered;
 use panel::Panel;
 use plant_reader::{BadLine, read};
 use plant_writer::write;
@@ -11,24 +10,34 @@ const LINE_FEED: u8 = 10;
 
 // A position changes before each writing, so that each is of another panel.
 pub(crate) fn writings(first: Panel, n: u64, file: &mut [u8]) -> Tally {
-    let tally = repeated(first, n, |panel, turn| {
-        let mut next = panel;
-        next.seats[0].blind.place.position = position_at(turn);
-        let outcome = write(&next, file).map(|length| length as u64);
-        Answered {
-            outcome,
-            state: next,
-        }
-    });
-    tally.with_cells(file)
+    let mut panel = first;
+    let mut tally = Tally::none();
+    for turn in 0..n {
+        panel.seats[0].blind.place.position = position_at(turn);
+        let written = write(&panel, file);
+        tally = tally.with(written.map(|length| length as u64));
+    }
+    tally.with_panel(panel).with_cells(file)
 }
 
 // The number of the bad line is counted, and the panel that was read last.
 pub(crate) fn file_readings(file: &[u8], n: u64) -> Tally {
-    repeated(Panel::empty(), n, |_, _| match read(file) {
-        Ok(panel) => Answered::done(panel, 0),
-        Err(BadLine(line)) => Answered::done(Panel::empty(), line),
-    })
+    let mut panel = Panel::empty();
+    let mut tally = Tally::none();
+    for _ in 0..n {
+        let done = read(file);
+        panel = done.panel;
+        tally = tally.with(Ok(bad_line(done.outcome)));
+    }
+    tally.with_panel(panel)
+}
+
+// 0 where none is bad.
+fn bad_line(outcome: Result<(), BadLine>) -> u64 {
+    match outcome {
+        Ok(_) => 0,
+        Err(BadLine(line)) => line,
+    }
 }
 
 // Rubbish: two bytes in turn up to the end, which is a line feed.

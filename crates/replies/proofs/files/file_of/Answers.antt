@@ -4,7 +4,7 @@ use Rattle.std.proofs.Common.{◌≤◌, length, sym, ap, ◌∙◌, arith}
 use Rattle.file_word.specs.FileWord.{unpacked}
 use Rattle.plant.specs.Read.{file_read}
 use Rattle.replies.proofs.FilesInLines.{word_fits, end_of_text, text_there}
-use Rattle.replies.proofs.files.panel_of.Goals as goal
+use Rattle.replies.proofs.files.file_of.Goals as goal
 
 pub slice_bounds-buffer-end : goal.slice_bounds-buffer-end
 slice_bounds-buffer-end c =
