@@ -1,18 +1,20 @@
 -- Lines as text: those of the blinds tag by tag, those of the links word by word, and the whole file of its three pieces.
 -- Assumes nothing.
-use Prim.Native.Nat.{ℕ, ◌+◌, ◌≤◌, ◌<◌}
+use Prim.Native.Nat.{ℕ, zero, suc, ◌+◌, ◌≤◌, ◌<◌}
 use native.Mathlib.Numerals.{add-one}
-use mathlib.Core.Path.{◌≡◌, refl, ap, ◌∙◌}
-use mathlib.Core.List.{List, [], ◌∷◌, ◌++◌, map, append-nil}
+use mathlib.Core.Path.{◌≡◌, refl, sym, ap, ◌∙◌}
+use mathlib.Core.Bool.{Bool, true, false, cond}
+use mathlib.Core.List.{List, [], ◌∷◌, ◌++◌, map, append_assoc, append-nil}
 use mathlib.Core.Option.{none, some}
 use lib.ListN.{length, get_or, take}
 use Rattle.std.proofs.lemmas.List.{take_all, take_more}
 use Rattle.laws.proofs.Maps.{map_both}
 use Rattle.tags.specs.Tags.{places}
-use Rattle.link.specs.Link.{of_word}
+use Rattle.link.specs.declared.Link.{Link}
+use Rattle.link.specs.Link.{nothing, of_word}
 use Rattle.panel.specs.declared.Seat.{Seat}
 use Rattle.panel.specs.Panel.{Model}
-use Rattle.texts.specs.Sheet.{Sheet, puts, joined}
+use Rattle.texts.specs.Sheet.{Sheet, puts, each, joined}
 use Rattle.texts.proofs.Sheets.{puts_append}
 use Rattle.fields.specs.Lines.{Line, line_text}
 use Rattle.fields.proofs.FieldsText.{lines_append}
@@ -45,7 +47,33 @@ module _ (tag : ℕ) (s : Sheet) where
   unfolding joined
   one_line seat = ap (λ (l : List ℕ). puts l s) (append-nil (line_text (blind_line tag seat)))
 
+-- the text of a tag: the line of its blind, if there is one
+abbrev pub seat_text : Model → ℕ → List ℕ
+seat_text m tag = lines_text (seat_lines tag (m.seats tag))
+
+pub seat_text_lem : (t : Bool) (tag : ℕ) (seat : Seat) → cond t (line_text (blind_line tag seat)) [] ≡ lines_text (seat_lines tag (cond t (some seat) none))
+unfolding joined
+seat_text_lem true tag seat = sym (append-nil (line_text (blind_line tag seat)))
+seat_text_lem false tag seat = refl
+
 -- ---- the links
+
+-- the text of a place
+abbrev pub place_text : List Link → ℕ → List ℕ
+place_text ls i = line_text (link_line (get_or ls i nothing))
+
+-- the first place, and then the others
+each_first : (of : ℕ → List ℕ) (n : ℕ) → each of (suc n) ≡ of 0 ++ each (λ i. of (suc i)) n
+unfolding each
+each_first of zero = sym (append-nil (of 0))
+each_first of (suc n) =
+    ap (λ (l : List ℕ). l ++ of (suc n)) (each_first of n) ∙ append_assoc (of 0) (each (λ i. of (suc i)) n) (of (suc n))
+
+pub links_text_lem : (ls : List Link) → each (place_text ls) (length ls) ≡ lines_text (map link_line ls)
+unfolding joined each
+links_text_lem [] = refl
+links_text_lem (l ∷ ls) =
+    each_first (place_text (l ∷ ls)) (length ls) ∙ ap (λ (t : List ℕ). line_text (link_line l) ++ t) (links_text_lem ls)
 
 module _ (words : List ℕ) (s : Sheet) where
   pub links_none : puts (lines_text (map link_line (map of_word (take 0 words)))) s ≡ s
