@@ -13,7 +13,7 @@ pub one_edit : (o : Result Held (Unit {0})) (r₁ r₂ : Answered Table) → edi
     → (r₁.outcome ≡ r₂.outcome) × (held_of r₁.state ≡ held_of r₂.state)
 one_edit o r₁ r₂ e₁ e₂ = (
   same_outcome r₁.outcome r₂.outcome
-  (ap (λ (x : Result Held (Unit {0})). x.answer) (one_answer e₁ e₂))
-  (ap (λ (x : Result Held (Unit {0})). x.count) (one_answer e₁ e₂)),
+      (ap (λ (x : Result Held (Unit {0})). x.answer) (one_answer e₁ e₂))
+      (ap (λ (x : Result Held (Unit {0})). x.count) (one_answer e₁ e₂)),
   ap (λ (x : Result Held (Unit {0})). x.leaves) (one_answer e₁ e₂),
 )
