@@ -1,5 +1,5 @@
-// Plant files, each written or read n times. Neither hands on a panel that it was handed: to make it a call for `repeated`
-// would be a copy that only the measurement needs.
+// Plant files, each written or read n times. Neither `write` nor `read` hands on a panel: made into a call for `repeated`, each
+// would cost a copy that only the measurement needs.
 use crate::bus_turns::position_at;
 use crate::tally::Tally;
 use panel::Panel;
