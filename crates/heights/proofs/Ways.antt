@@ -3,7 +3,7 @@
 use Prim.Native.Nat.{ℕ, zero, suc, ◌+◌, ◌-◌, ◌<◌, ◌≤◌, min}
 use native.Mathlib.Nat.{le_antisymm}
 use native.Mathlib.Omega.{arith}
-use mathlib.Core.Path.{◌≡◌, ap, ◌∙◌}
+use mathlib.Core.Path.{◌≡◌, refl, ap, ◌∙◌}
 use lib.Dec.{ltb}
 use borrow.Author.Tests.{ltb-true, ltb-false}
 use Rattle.laws.proofs.Choices.{cond_has}
@@ -22,19 +22,31 @@ next_none : (d : Direction) (lowest position : ℕ) → position ≤ lowest → 
 next_none Direction.Up lowest position h = omega arith
 next_none Direction.Down lowest position h = omega arith
 
+next_first : (d : Direction) (lowest position : ℕ) → next_height d lowest position ≡ height_after 1 d lowest position
+next_first Direction.Up lowest position = refl
+next_first Direction.Down lowest position = refl
+
 next_more : (k : ℕ) (d : Direction) (lowest position : ℕ)
     → next_height d lowest (height_after k d lowest position) ≡ height_after (suc k) d lowest position
 next_more k Direction.Up lowest position = omega arith
 next_more k Direction.Down lowest position = omega arith
 
--- between the ends the position falls or rises by one each millisecond, up to the end
-pub after_at_once : (k : ℕ) (d : Direction) (p : Params) (place : Place) → place.position ≤ bottom p
+-- from the first millisecond on the position falls or rises by one each, up to the end, wherever it was
+pub some_at_once : (k : ℕ) (d : Direction) (p : Params) (place : Place) → 0 < k
     → place_after k d p place ≡ with_position (height_after k d (bottom p) place.position) place
 unfolding place_after next_place
+some_at_once zero d p place some = absurd (omega arith)
+some_at_once (suc zero) d p place some = ap (λ (n : ℕ). with_position n place) (next_first d (bottom p) place.position)
+some_at_once (suc (suc k)) d p place some =
+    ap (λ (x : Place). with_position (next_height d (bottom p) x.position) x) (some_at_once (suc k) d p place (omega arith))
+    ∙ ap (λ (n : ℕ). with_position n place) (next_more (suc k) d (bottom p) place.position)
+
+-- and between the ends before it too
+pub after_at_once : (k : ℕ) (d : Direction) (p : Params) (place : Place) → place.position ≤ bottom p
+    → place_after k d p place ≡ with_position (height_after k d (bottom p) place.position) place
+unfolding place_after
 after_at_once zero d p place h = ap (λ (n : ℕ). with_position n place) (next_none d (bottom p) place.position h)
-after_at_once (suc k) d p place h =
-    ap (λ (x : Place). with_position (next_height d (bottom p) x.position) x) (after_at_once k d p place h)
-    ∙ ap (λ (n : ℕ). with_position n place) (next_more k d (bottom p) place.position)
+after_at_once (suc k) d p place h = some_at_once (suc k) d p place (omega arith)
 
 -- running keeps a place between the ends
 pub next_within : (d : Direction) (p : Params) (place : Place) → place.position ≤ bottom p → (next_place d p place).position ≤ bottom p

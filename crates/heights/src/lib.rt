@@ -2,9 +2,9 @@
 // whole run lead, what a byte means as a target and which way it is, and what is told of a place.
 #![tactic(auto)]
 
-ghost use Rattle.std.specs.Prelude.{◌*◌, ◌≡◌};
+ghost use Rattle.std.specs.Prelude.{◌*◌, ◌<◌, ◌≡◌};
 ghost use Rattle.laws.specs.Nearest.{nearest};
-ghost use Rattle.heights.specs.Heights.{full_time, bottom, next_height, next_place, place_after, end_of, target, way_to, kept_between, raw, told};
+ghost use Rattle.heights.specs.Heights.{full_time, bottom, next_place, place_after, end_of, target, way_to, kept_between, raw, told};
 
 use params::Params;
 
@@ -90,12 +90,11 @@ impl Place {
     };
 
     // After one running millisecond.
-    #[tactic(auto, unfolding(crate::specs::Heights::next_place))]
+    #[tactic(auto, unfolding(crate::specs::Heights::place_after))]
     pub fn next(self, direction: Direction, params: Params) -> Place
         ensures { result ≡ next_place direction params self }
     {
-        let position = next_height(direction, bottom(params), self.position);
-        Place { position, ..self }
+        self.moved(1, direction, params)
     }
 
     // After some running milliseconds.
@@ -103,11 +102,24 @@ impl Place {
     pub fn after(self, count: u32, direction: Direction, params: Params) -> Place
         ensures { result ≡ place_after count direction params self }
     {
-        let mut place = self;
-        for _ in 0..count {
-            place = place.next(direction, params);
+        if count == 0 {
+            self
+        } else {
+            self.moved(count, direction, params)
         }
-        place
+    }
+
+    // Of one millisecond and more. After none a place stays as it is, even below the lower end.
+    #[tactic(auto, using(crate::proofs::Ways::some_at_once))]
+    fn moved(self, count: u32, direction: Direction, params: Params) -> Place
+        requires { 0 < count }
+        ensures { result ≡ place_after count direction params self }
+    {
+        let position = match direction {
+            Direction::Up => self.position.saturating_sub(count),
+            Direction::Down => self.position.saturating_add(count).min(bottom(params)),
+        };
+        Place { position, ..self }
     }
 
     #[tactic(auto, unfolding(crate::specs::Heights::way_to))]
@@ -130,15 +142,6 @@ impl Place {
     {
         let byte = raw(self.position, bottom(params));
         if self.valid { byte + VALID } else { byte }
-    }
-}
-
-fn next_height(direction: Direction, bottom: u32, position: u32) -> u32
-    ensures { result ≡ next_height direction bottom position }
-{
-    match direction {
-        Direction::Up => position.saturating_sub(1),
-        Direction::Down => position.saturating_add(1).min(bottom),
     }
 }
 
