@@ -1,10 +1,11 @@
 // The whole panel in one line: each blind by its tag with all that it holds, then each link in table order.
 #![tactic(auto)]
 
+ghost use Rattle.std.specs.Prelude.{◌≡◌};
 ghost use Rattle.tags.specs.Tags.{places};
 ghost use Rattle.table.specs.Links.{held_of};
 ghost use Rattle.panel.specs.Panel.{model_of, seats_of, found};
-ghost use Rattle.texts.specs.Sheet.{each};
+ghost use Rattle.texts.specs.Sheet.{sheet, puts, each};
 ghost use Rattle.texts.specs.Lent.{Puts};
 ghost use Rattle.panel_text.specs.PanelText.{seat_text, link_text, links_text, panel_text};
 
@@ -17,6 +18,21 @@ use tags::CELLS;
 use texts::Sheet;
 
 pub fn put_panel(sheet: &mut Sheet<'_>, panel: &Panel)
+    ensures { Puts (panel_text (model_of panel.now)) sheet.old sheet.new }
+{
+    sheet.at = put_on_row(sheet.bytes, sheet.at, panel);
+}
+
+// On a sheet of its own: through a lent one each byte waits for the place that the one before stored.
+fn put_on_row(row: &mut [u8], at: usize, panel: &Panel) -> usize
+    ensures { sheet row.new result ≡ puts (panel_text (model_of panel.now)) (sheet row.old at) }
+{
+    let mut sheet = Sheet { bytes: row, at };
+    put_parts(&mut sheet, panel);
+    sheet.at
+}
+
+fn put_parts(sheet: &mut Sheet<'_>, panel: &Panel)
     ensures { Puts (panel_text (model_of panel.now)) sheet.old sheet.new }
 {
     sheet.put_text(b"panel");

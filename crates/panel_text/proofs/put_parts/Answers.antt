@@ -4,7 +4,7 @@ use Rattle.laws.specs.Fills.{tabulate}
 use Rattle.texts.specs.Text.{text}
 use Rattle.texts.proofs.Sheets.{pieces}
 use Rattle.panel_text.specs.PanelText.{panel_text}
-use Rattle.panel_text.proofs.put_panel.Goals as goal
+use Rattle.panel_text.proofs.put_parts.Goals as goal
 
 pub returns : goal.returns
 unfolding text tabulate panel_text
