@@ -7,15 +7,30 @@ use panel::Panel;
 pub(crate) fn repeated<F: FnMut(Panel, u64) -> Answered<Panel>>(
     first: Panel,
     n: u64,
-    mut call: F,
+    call: F,
 ) -> Tally
     requires { F.IsAlwaysCallable call }
+{
+    settled(first, n, call, |_| ())
+}
+
+// A call made n times, and what is put back after each, on the very panel: handed through, it would be copied once more, and
+// that would be timed.
+pub(crate) fn settled<F: FnMut(Panel, u64) -> Answered<Panel>, G: FnMut(&mut Panel)>(
+    first: Panel,
+    n: u64,
+    mut call: F,
+    mut settle: G,
+) -> Tally
+    requires one { F.IsAlwaysCallable call }
+    requires other { G.IsAlwaysCallable settle }
 {
     let mut panel = first;
     let mut tally = Tally::none();
     for turn in 0..n {
         let done = call(panel, turn);
         panel = done.state;
+        settle(&mut panel);
         tally = tally.with(done.outcome);
     }
     tally.with_panel(panel)

@@ -1,6 +1,6 @@
 // The edits and the inventory, each made n times. Calls that undo each other stand in one turn.
 use crate::bus_turns::position_at;
-use crate::course::{repeated, undone};
+use crate::course::{repeated, settled, undone};
 use crate::panels::{FULL_RUN, asked};
 use crate::tally::Tally;
 use answers::Answered;
@@ -28,11 +28,12 @@ pub(crate) fn removals(first: Panel, tag: u64, n: u64) -> Tally {
 pub(crate) fn writes(first: Panel, tag: u64, n: u64) -> Tally {
     let params = asked();
     let rested = first.seats[0].blind;
-    repeated(first, n, |panel, _| {
-        let mut done = write_params(panel, tag, params);
-        done.state.seats[0].blind = rested;
-        done
-    })
+    settled(
+        first,
+        n,
+        |panel, _| write_params(panel, tag, params),
+        |panel| panel.seats[0].blind = rested,
+    )
 }
 
 // A blind is removed and installed again, and blind 0 gets back what it was. Its links go with the first removal.

@@ -21,13 +21,12 @@ use tags::PLACES;
 pub fn write_params(mut panel: Panel, tag: u64, asked: Asked) -> Answered<Panel>
     ensures { Does (write_rule tag (row_of asked)) panel no_cells result no_cells }
 {
-    match judge(&panel, tag, asked) {
-        Err(refusal) => Answered::refused(panel, refusal),
-        Ok(seat) => {
-            panel.seats[tag as usize].blind = rewrite(seat.blind, asked.params());
-            Answered::done(panel, 0)
-        }
-    }
+    let seat = match judge(&panel, tag, asked) {
+        Err(refusal) => return Answered::refused(panel, refusal),
+        Ok(seat) => seat,
+    };
+    panel.seats[tag as usize].blind = rewrite(seat.blind, asked.params());
+    Answered::done(panel, 0)
 }
 
 // The seat whose blind is to be written.

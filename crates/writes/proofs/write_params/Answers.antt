@@ -27,9 +27,9 @@ bounds-panel-tag c = (passed c.args.tag (row_of c.args.asked) c.args.panel c.in-
 pub returns-in-Err : goal.returns-in-Err
 returns-in-Err c = refuses _ _ _ c.refused.ensures (sym c.in-Err.ensures.answer)
 
-pub returns-in-Ok : goal.returns-in-Ok
+pub returns : goal.returns
 unfolding write_rule
-returns-in-Ok c =
+returns c =
     let p = c.args.panel in
     let ok : Writable c.args.tag (model_of p) no_cells (row_of c.args.asked) = passed c.args.tag (row_of c.args.asked) p c.in-Ok.ensures.answer in
     let seats_long : length p.seats ≡ 64 = search (long, rules) in
