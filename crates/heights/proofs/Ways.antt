@@ -31,7 +31,7 @@ next_more : (k : ℕ) (d : Direction) (lowest position : ℕ)
 next_more k Direction.Up lowest position = omega arith
 next_more k Direction.Down lowest position = omega arith
 
--- from the first millisecond on the position falls or rises by one each, up to the end, wherever it was
+-- one millisecond or more at once, wherever the place was,
 pub some_at_once : (k : ℕ) (d : Direction) (p : Params) (place : Place) → 0 < k
     → place_after k d p place ≡ with_position (height_after k d (bottom p) place.position) place
 unfolding place_after next_place
@@ -41,7 +41,7 @@ some_at_once (suc (suc k)) d p place some =
     ap (λ (x : Place). with_position (next_height d (bottom p) x.position) x) (some_at_once (suc k) d p place (omega arith))
     ∙ ap (λ (n : ℕ). with_position n place) (next_more (suc k) d (bottom p) place.position)
 
--- and between the ends before it too
+-- and none too, where it was between the ends
 pub after_at_once : (k : ℕ) (d : Direction) (p : Params) (place : Place) → place.position ≤ bottom p
     → place_after k d p place ≡ with_position (height_after k d (bottom p) place.position) place
 unfolding place_after

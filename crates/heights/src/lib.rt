@@ -109,7 +109,7 @@ impl Place {
         }
     }
 
-    // Of one millisecond and more. After none a place stays as it is, even below the lower end.
+    // After one running millisecond or more, at once. After none a place stays as it is, even below the lower end.
     #[tactic(auto, using(crate::proofs::Ways::some_at_once))]
     fn moved(self, count: u32, direction: Direction, params: Params) -> Place
         requires { 0 < count }
